@@ -1,0 +1,3 @@
+mod Overwrites
+pub mod ByteFacts
+pub mod Scanning
