@@ -81,8 +81,3 @@ join-found text o p x s f = record { less = omega (arith, s .reached, f .less); 
 pub passed-all : (text : List ℕ) (o p : ℕ) → Passed text o p → p ≡ length text → Scans o (drop o text) [] (length text) []
 passed-all text o p s e =
     subst (λ l. Scans o (drop o text) [] (length text) l) (drop-all (length text) text (omega arith)) (subst (λ k. Scans o (drop o text) [] k (drop k text)) e (s .scans))
-
--- what is refused after some tokens is the first that is refused
-pub refused-after : (text : List ℕ) (at : ℕ) (ts : List Token) (f : TextFault) → Scans 0 text ts at (drop at text) → Next text at (Err f) → Scanned text (Err f)
-refused-after text at ts (fault.Stray p) s n = (ts ++ [], record { before = join s (n .before); within = n .within; stray = n .stray })
-refused-after text at ts (fault.Misplaced p) s n = absurd n

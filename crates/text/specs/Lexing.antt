@@ -57,8 +57,19 @@ pub record Passed (text : List ℕ) (o p : ℕ) : Type 0 where
   pub scans : Scans o (drop o text) [] p (drop p text)
   pub stops : p < length text → class-of (getD text p 0) ≡ Space → ⊥
 
--- the whole text is tokens and spaces, or the first byte or run that is none is answered
+-- the whole text is tokens and spaces, in one way only
+pub record AllTokens (text : List ℕ) : Type 0 where
+  pub tokens : List Lexed
+  pub spelled : Tokens text tokens
+  pub only : (ts : List Lexed) → Tokens text ts → ts ≡ tokens
+
+-- the text is not all tokens and spaces: the first byte or run that is none stands at p
+pub record NotAllTokens (text : List ℕ) (p : ℕ) : Type 0 where
+  pub tokens : List Lexed
+  pub first : FirstStray text 0 tokens p
+  pub none : (ts : List Lexed) → Tokens text ts → ⊥
+
 abbrev pub Scanned : List ℕ → Result Unit TextFault → Type 0
-Scanned text (Ok u) = (ts : List Lexed) × Tokens text ts
-Scanned text (Err (Stray p)) = (ts : List Lexed) × FirstStray text 0 ts p
+Scanned text (Ok u) = AllTokens text
+Scanned text (Err (Stray p)) = NotAllTokens text p
 Scanned text (Err (Misplaced p)) = ⊥

@@ -5,7 +5,8 @@ use Rattle.std.proofs.shelf.Results.{err-from-errBy}
 use Rattle.std.specs.declared.result.Result.the-variants.{Ok}
 use Rattle.text.specs.Lexing.{Next}
 use Rattle.text.specs.Tokens.{here}
-use Rattle.text.proofs.Scanning.{join, refused-after}
+use Rattle.text.proofs.Scanning.{join}
+use Rattle.text.proofs.Ahead.{all-tokens, refused-after}
 use Rattle.text.proofs.lexer.Lexer.scan.Needs as need
 
 pub loop-found-holds : need.loop-found-holds
@@ -26,4 +27,4 @@ loop-found-again c =
 pub returns : need.returns
 returns c =
     let sofar = c .loop-found .inv in
-    (sofar .1 .0 ++ [], join (sofar .1 .1) (subst (λ r. Next (c .args .self .now .text .now) (c .loop-found .at) (Ok r)) (c .in-rest .is) (c .in-Continue-found .ensures tt (sofar .0))))
+    all-tokens _ (sofar .1 .0 ++ []) (join (sofar .1 .1) (subst (λ r. Next (c .args .self .now .text .now) (c .loop-found .at) (Ok r)) (c .in-rest .is) (c .in-Continue-found .ensures tt (sofar .0))))
