@@ -7,12 +7,14 @@ use native.Mathlib.Omega.{arith}
 use borrow.Author.Tests.{eqb-false}
 use lib.Dec.{eqb}
 use lib.ListN.{length, take, drop, length-take}
+use Rattle.std.specs.declared.option.Option.{Option}
 use Rattle.std.specs.declared.option.Option.the-variants.{Some, None}
+use Rattle.text.specs.declared.token.Lexeme.{Lexeme}
 use Rattle.text.specs.Bytes.{class-of, in-name}
 use Rattle.text.specs.Words.{lead, run, IsName, IsNumber, numeral}
-use Rattle.text.specs.Tokens.{Sign, Token, token, name, reference, single, Scans, here, space, mark, word, number, Tokens, Stray, other, no-name, no-number}
+use Rattle.text.specs.Tokens.{Sign, Token, token, name, reference, single, Scans, here, space, mark, word, number, Tokens, Rest, Stray, other, no-name, no-number}
 use Rattle.std.specs.declared.result.Result.the-variants.{Ok, Err}
-use Rattle.text.specs.Lexing.{Next, AllTokens, NotAllTokens, Scanned}
+use Rattle.text.specs.Lexing.{Next, Found, AllTokens, NotAllTokens, Scanned, sign-of}
 use Rattle.text.specs.declared.fault.TextFault.{TextFault}
 use Rattle.text.specs.declared.fault.TextFault.the-variants as fault
 use Rattle.text.specs.declared.bytes.Class.{Class}
@@ -116,3 +118,18 @@ refused-after text at ts (fault.Stray p) s n =
       none = λ us t. stops (n .stray) (ahead r t .2);
     }
 refused-after text at ts (fault.Misplaced p) s n = absurd n
+
+-- What the next token is to the tokens that are left.
+module _ (text : List ℕ) (o : ℕ) (ts : List Token) (r : Rest text o ts) where
+  pub rest-none : (n : Option Lexeme) → n ≡ None → Next text o (Ok n) → ts ≡ []
+  rest-none n e s = let on = ahead (subst (λ m. Next text o (Ok m)) e s) r in on .1 ∙ none-left (on .2)
+
+  pub rest-some : (n : Option Lexeme) (x : Lexeme) → n ≡ Some x → Next text o (Ok n) → (us : List Token) × (ts ≡ token (sign-of (x .token)) (x .at) ∷ us) × Rest text (x .end) us
+  rest-some n x e s = ahead ((subst (λ m. Next text o (Ok m)) e s) .scans) r
+
+  pub rest-refused : (f : TextFault) → Next text o (Err f) → ⊥
+  rest-refused (fault.Stray p) s = stops (s .stray) (ahead (s .before) r .2)
+  rest-refused (fault.Misplaced p) s = s
+
+pub next-advances : (text : List ℕ) (o : ℕ) (n : Option Lexeme) (x : Lexeme) → n ≡ Some x → Next text o (Ok n) → (o < x .end) × (x .end ≤ length text)
+next-advances text o n x e s = let f = subst (λ m. Next text o (Ok m)) e s in (f .less, f .within)

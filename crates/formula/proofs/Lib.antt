@@ -1,0 +1,4 @@
+mod Writing
+mod Scopes
+mod Tokens
+mod Signs
