@@ -2,3 +2,7 @@ mod Writing
 mod Scopes
 mod Tokens
 mod Signs
+mod Firsts
+mod Steps
+mod Faulting
+mod Covering

@@ -12,6 +12,7 @@ use Rattle.std.specs.declared.result.Result.the-variants.{Ok, Err}
 use Rattle.text.specs.Tokens.{Sign, Token, token, lambda, dot, opening, closing, name, reference, Rest}
 use Rattle.text.specs.Lexing.{Next, sign-of}
 use Rattle.text.specs.declared.token.Lexeme.{Lexeme}
+use Rattle.text.specs.declared.token.Token.the-variants as cut
 use Rattle.text.specs.declared.fault.TextFault.{TextFault}
 use Rattle.text.specs.declared.fault.TextFault.the-variants.{Stray, Misplaced}
 use Rattle.text.proofs.Ahead.{rest-none, rest-some, rest-refused, next-advances}
@@ -97,3 +98,17 @@ head-read text from mid h l b =
       within = b .within;
       reads = λ ts r. let a = l .reads ts r in let c = b .reads (a .1) (a .3) in (a .0, c .0, c .1, c .2, a .2 ∙ ap (λ l. token lambda (a .0) ∷ l) (c .3), c .4);
     }
+
+-- what the tokens rule out of the next one
+module _ (text : List ℕ) (from : ℕ) (n : Option Lexeme) (next : Next text from (Ok n)) (ts : List Token) (r : Rest text from ts) where
+  pub not-lambda : (f : Lexeme) → n ≡ Some f → NoLambda ts → f .token ≡ cut.Lambda → ⊥
+  not-lambda f e l x = let m = rest-some text from ts r n f e next in l (f .at) (m .0) (m .1 ∙ ap (λ y. token (sign-of y) (f .at) ∷ m .0) x)
+
+  pub not-close : (f : Lexeme) → n ≡ Some f → GoesOn ts → f .token ≡ cut.Close → ⊥
+  not-close f e g x =
+      let m = rest-some text from ts r n f e next in
+      let z : g .0 ≡ token closing (f .at) = same-head (g .0) (token closing (f .at)) (g .1) (m .0) (sym (g .2) ∙ m .1 ∙ ap (λ y. token (sign-of y) (f .at) ∷ m .0) x) in
+      g .3 (ap (λ (y : Token). y .sign) z)
+
+  pub not-none : n ≡ None → GoesOn ts → ⊥
+  not-none e g = cons-not-nil (g .0) (g .1) (sym (g .2) ∙ rest-none text from ts r n e next)

@@ -2,9 +2,9 @@
 use mathlib.Core.Path.{_≡_}
 use mathlib.Core.Bool.{Bool, true, false}
 use mathlib.Core.List.{List, [], _∷_, _++_, map, reverse}
-use Prim.Native.Nat.{ℕ, _+_, _-_, _*_, _<_, _≤_}
+use Prim.Native.Nat.{ℕ, _+_, _-_, _*_, _^_, _<_, _≤_}
 use denote.Ref.{RefT, now}
-use lib.ListN.{length, take}
+use lib.ListN.{length, take, set}
 use lib.Seq.{paste}
 use Rattle.std.specs.declared.option.Option.{Option}
 use Rattle.std.specs.declared.option.Option.the-variants.{Some, None}
@@ -13,7 +13,7 @@ use Rattle.std.specs.declared.result.Result.the-variants.{Ok, Err}
 use Rattle.catalogue.specs.Names.{Name}
 use Rattle.catalogue.specs.Entries.{Entry}
 use Rattle.grammar.specs.Grammar.{Tree, named, nodes, Kind, Is}
-use Rattle.grammar.specs.Machine.{Frames, State, start, binder, before-dot, Halts}
+use Rattle.grammar.specs.Machine.{Frames, State, start, binder, before-dot, after, Halts}
 use Rattle.term.specs.declared.TermNode.{TermNode}
 use Rattle.term.specs.Terms.{Term, prefix}
 use Rattle.text.specs.Tokens.{Sign, Token, token, lambda, dot, closing, name, Rest}
@@ -97,6 +97,16 @@ abbrev pub Leaf : List Entry → List Name → Name → Option TermNode → Type
 Leaf es scope w (Some v) = (t : Term) × (prefix t ≡ v ∷ []) × ((o : ℕ) → Resolves es scope (named w o) t)
 Leaf es scope w None = (o : ℕ) → Known es (record { name = w; at = o; scope = scope }) → ⊥
 
+-- a name settled: its node is written where there is room, or its place is answered
+abbrev pub Settled : List Entry → List Name → Name → ℕ → List TermNode → List TermNode → ℕ → Option ℕ → Type 0
+Settled es scope w place out out′ at None = (t : Term) × (v : TermNode) × (prefix t ≡ v ∷ []) × ((o : ℕ) → Resolves es scope (named w o) t) × (at < length out → out′ ≡ set out at v)
+Settled es scope w place out out′ at (Some p) = (p ≡ place) × ((o : ℕ) → Known es (record { name = w; at = o; scope = scope }) → ⊥)
+
+-- where a reference is not filed, its place
+abbrev pub Unfiled : ℕ → ℕ → ℕ → Option ℕ → Type 0
+Unfiled filed n place None = n < filed
+Unfiled filed n place (Some p) = (p ≡ place) × (n < filed → ⊥)
+
 -- How far was read, and how many nodes at most.
 pub record Advance (text : List ℕ) (from : ℕ) (r : Reach) : Type 0 where
   pub less : from < r .end
@@ -116,3 +126,31 @@ pub record Made (kind : Kind) (text : List ℕ) (es : List Entry) (filed cap dep
   pub filing : Fails (Filed filed) (λ x. x .at) (references tree) (r .unfiled)
   pub naming : depth + nodes tree ≤ cap → Fails (Known es) (λ u. u .at) (uses scope tree) (r .unknown)
   pub writing : depth + nodes tree ≤ cap → r .unknown ≡ None → at + nodes tree ≤ length out → at + nodes tree ≤ 1024 → (t : Term) × Resolves es scope tree t × (out′ ≡ paste out at (prefix t) (nodes tree))
+
+-- One of the kind was read from here on, over whichever tokens the text has.
+pub record Covered (kind : Kind) (text : List ℕ) (es : List Entry) (filed : ℕ) (binders binders′ : List (RefT (List ℕ))) (depth : ℕ) (out out′ : List TermNode) (at from : ℕ) (r : Reach) : Type 0 where
+  pub advance : Advance text from r
+  pub kept : take depth (map now binders′) ≡ take depth (map now binders)
+  pub made : (ts : List Token) → Rest text from ts → Made kind text es filed (length binders) depth (scope-of binders depth) out out′ at r ts
+
+-- the same of an expression or an application, which goes on as far as it can
+pub record Ended (kind : Kind) (text : List ℕ) (es : List Entry) (filed : ℕ) (binders binders′ : List (RefT (List ℕ))) (depth : ℕ) (out out′ : List TermNode) (at from : ℕ) (r : Reach) : Type 0 where
+  pub covered : Covered kind text es filed binders binders′ depth out out′ at from r
+  pub ends : (ts : List Token) → Rest text (r .end) ts → Ends ts
+
+abbrev pub BlamesExpression : List ℕ → ℕ → TextFault → Type 0
+BlamesExpression text from f = (ts : List Token) → Rest text from ts → (k : Frames) → Blames (start k) ts (length text) f
+
+abbrev pub BlamesApplication : List ℕ → ℕ → TextFault → Type 0
+BlamesApplication text from f = (ts : List Token) → Rest text from ts → NoLambda ts → (k : Frames) → Blames (start k) ts (length text) f
+
+abbrev pub BlamesNext : List ℕ → ℕ → TextFault → Type 0
+BlamesNext text from f = (ts : List Token) → Rest text from ts → GoesOn ts → (g : Tree) (k : Frames) → Blames (after g k) ts (length text) f
+
+-- what the parts of the reader are called with
+pub record Ready (text : List ℕ) (binders : List (RefT (List ℕ))) (depth at from : ℕ) : Type 0 where
+  pub inside : from ≤ length text
+  pub few : length binders ≤ 65536
+  pub shallow : depth ≤ from
+  pub low : at ≤ 2 * from
+  pub short : 2 * length text + 2 < 2 ^ 64

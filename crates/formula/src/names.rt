@@ -1,7 +1,9 @@
 // What a name means: the innermost binder around it that bears it.
 ghost use mathlib.Core.Path.{_≡_};
 ghost use Prim.Native.Nat.{ℕ, _-_, _<_, _≤_};
-ghost use lib.ListN.{length, getD};
+ghost use mathlib.Core.List.{map};
+ghost use denote.Ref.{now as held};
+ghost use lib.ListN.{length, getD, set};
 ghost use Rattle.std.specs.Options.{Cases as BySome};
 ghost use Rattle.formula.specs.Names.{Bound};
 ghost use Rattle.formula.specs.Parsing.{scope-of};
@@ -23,4 +25,14 @@ pub fn index(binders: &[&[u8]], depth: usize, name: &[u8]) -> Option<usize>
         k += 1;
     }
     None
+}
+
+// Notes the name of a binder at a depth, where there is room.
+pub fn bind<'a>(binders: &mut [&'a [u8]], depth: usize, name: &'a [u8])
+    ensures noted { λ _. ⌜ (depth < length (now (binders .entry)) → map held (now (binders .exit)) ≡ set (map held (now (binders .entry))) depth (held (name .entry))) ⌝ }
+    ensures full { λ _. ⌜ (length (now (binders .entry)) ≤ depth → map held (now (binders .exit)) ≡ map held (now (binders .entry))) ⌝ }
+{
+    if depth < binders.len() {
+        binders[depth] = name;
+    }
 }

@@ -10,19 +10,22 @@ ghost use Rattle.std.specs.Results.{Cases};
 ghost use Rattle.catalogue.specs.Names.{Name};
 ghost use Rattle.catalogue.specs.Entries.{Entry};
 ghost use Rattle.formula.specs.Names.{Known};
-ghost use Rattle.formula.specs.Parsing.{scope-of, Leaf, FirstOf};
+ghost use Rattle.formula.specs.Parsing.{scope-of, Leaf, FirstOf, Settled, Unfiled, Ready, Ended, Covered, BlamesExpression, BlamesApplication, BlamesNext};
+ghost use Rattle.grammar.specs.Grammar.{expression as anExpression, application as anApplication, atom as anAtom};
 use crate::expected::abstraction_head;
 use crate::expected::closing;
 use crate::expected::follows;
 use crate::memory::lift;
 use crate::memory::put;
+use crate::names::bind;
 use crate::names::index;
 use catalogue::interface::Catalogue;
 use term::TermNode;
 use text::fault::TextFault;
 use text::lexer::Lexer;
-use text::token::Lexeme;
 use text::token::Token;
+
+const ABSTRACTION: TermNode = TermNode { kind: 1, number: 0 };
 
 // What was read: where it ends, how many nodes it has, and the offsets of the first unknown name and of the first
 // reference that is not filed.
@@ -63,6 +66,83 @@ impl<'a, C: Catalogue> Reader<'a, C> {
         match self.catalogue.find(name) {
             Some(k) => Some(TermNode { kind: 3, number: k }),
             None => None,
+        }
+    }
+
+    // Writes the node of a name, or answers its place where it is unknown.
+    fn settle(&self, binders: &[&[u8]], depth: usize, name: &[u8], place: usize, out: &mut [TermNode], at: usize) -> Option<usize>
+        requires { ⌜ length (now binders) ≤ 65536 ⌝ }
+        ensures { λ r. ⌜ (depth ≤ length (now (binders .entry)) → Settled (entries (held (now (self .entry) .catalogue))) (scope-of (now (binders .entry)) depth) (now (name .entry)) place (now (out .entry)) (now (out .exit)) at r) ⌝ }
+    {
+        match self.leaf(binders, depth, name) {
+            Some(node) => {
+                put(out, at, node);
+                None
+            }
+            None => Some(place),
+        }
+    }
+
+    // The place of a reference that is not filed.
+    fn unfiled(&self, number: u16, place: usize) -> Option<usize>
+        ensures { λ r. ⌜ Unfiled (now (self .entry) .filed) number place r ⌝ }
+    {
+        if number < self.filed { None } else { Some(place) }
+    }
+
+    pub fn expression(&self, from: usize, binders: &mut [&'a [u8]], depth: usize, out: &mut [TermNode], at: usize) -> Result<Reach, TextFault>
+        requires { ⌜ Ready (held (now self .lexer .text)) (now binders) depth at from ⌝ }
+        ensures { λ r. ⌜ Cases r (λ q. Ended anExpression (held (now (self .entry) .lexer .text)) (entries (held (now (self .entry) .catalogue))) (now (self .entry) .filed) (now (binders .entry)) (now (binders .exit)) depth (now (out .entry)) (now (out .exit)) at from q) (λ f. BlamesExpression (held (now (self .entry) .lexer .text)) from f) ⌝ }
+    {
+        match abstraction_head(&self.lexer, from)? {
+            Some(head) => {
+                bind(binders, depth, head.name);
+                put(out, at, ABSTRACTION);
+                let body = self.expression(head.end, binders, depth + 1, out, at + 1)?;
+                Ok(Reach { end: body.end, count: body.count + 1, unknown: body.unknown, unfiled: body.unfiled })
+            }
+            None => self.application(from, binders, depth, out, at),
+        }
+    }
+
+    fn application(&self, from: usize, binders: &mut [&'a [u8]], depth: usize, out: &mut [TermNode], at: usize) -> Result<Reach, TextFault>
+        requires { ⌜ Ready (held (now self .lexer .text)) (now binders) depth at from ⌝ }
+        ensures { λ r. ⌜ Cases r (λ q. Ended anApplication (held (now (self .entry) .lexer .text)) (entries (held (now (self .entry) .catalogue))) (now (self .entry) .filed) (now (binders .entry)) (now (binders .exit)) depth (now (out .entry)) (now (out .exit)) at from q) (λ f. BlamesApplication (held (now (self .entry) .lexer .text)) from f) ⌝ }
+    {
+        let mut reach = self.atom(from, binders, depth, out, at)?;
+        'atoms: while follows(&self.lexer, reach.end)? {
+            lift(out, at, reach.count);
+            let next = self.atom(reach.end, binders, depth, out, at + reach.count + 1)?;
+            let unknown = first_of(reach.unknown, next.unknown);
+            let unfiled = first_of(reach.unfiled, next.unfiled);
+            reach = Reach { end: next.end, count: reach.count + next.count + 1, unknown, unfiled };
+        }
+        Ok(reach)
+    }
+
+    fn atom(&self, from: usize, binders: &mut [&'a [u8]], depth: usize, out: &mut [TermNode], at: usize) -> Result<Reach, TextFault>
+        requires { ⌜ Ready (held (now self .lexer .text)) (now binders) depth at from ⌝ }
+        ensures { λ r. ⌜ Cases r (λ q. Covered anAtom (held (now (self .entry) .lexer .text)) (entries (held (now (self .entry) .catalogue))) (now (self .entry) .filed) (now (binders .entry)) (now (binders .exit)) depth (now (out .entry)) (now (out .exit)) at from q) (λ f. BlamesApplication (held (now (self .entry) .lexer .text)) from f × BlamesNext (held (now (self .entry) .lexer .text)) from f) ⌝ }
+    {
+        match self.lexer.next(from)? {
+            Some(found) => match found.token {
+                Token::Name(name) => {
+                    let unknown = self.settle(binders, depth, name, found.at, out, at);
+                    Ok(Reach { end: found.end, count: 1, unknown, unfiled: None })
+                }
+                Token::Reference(number) => {
+                    put(out, at, TermNode { kind: 4, number });
+                    let unfiled = self.unfiled(number, found.at);
+                    Ok(Reach { end: found.end, count: 1, unknown: None, unfiled })
+                }
+                Token::Open => {
+                    let inner = self.expression(found.end, binders, depth, out, at)?;
+                    let end = closing(&self.lexer, inner.end)?;
+                    Ok(Reach { end, count: inner.count, unknown: inner.unknown, unfiled: inner.unfiled })
+                }
+                _ => Err(TextFault::Misplaced(found.at)),
+            },
+            None => Err(TextFault::Misplaced(self.lexer.text.len())),
         }
     }
 }
