@@ -6,3 +6,4 @@ mod Firsts
 mod Steps
 mod Faulting
 mod Covering
+mod Wholes

@@ -12,15 +12,18 @@ use Rattle.std.specs.declared.result.Result.{Result}
 use Rattle.std.specs.declared.result.Result.the-variants.{Ok, Err}
 use Rattle.catalogue.specs.Names.{Name}
 use Rattle.catalogue.specs.Entries.{Entry}
-use Rattle.grammar.specs.Grammar.{Tree, named, nodes, Kind, Is}
+use Rattle.std.specs.shelf.Lists.{All}
+use Rattle.grammar.specs.Grammar.{Tree, named, nodes, Kind, Is, FirstBad}
 use Rattle.grammar.specs.Machine.{Frames, State, start, binder, before-dot, after, Halts}
 use Rattle.term.specs.declared.TermNode.{TermNode}
 use Rattle.term.specs.Terms.{Term, prefix}
-use Rattle.text.specs.Tokens.{Sign, Token, token, lambda, dot, closing, name, Rest}
+use Rattle.text.specs.Tokens.{Sign, Token, token, lambda, dot, closing, name, Rest, Tokens}
+use Rattle.text.specs.Lexing.{NotAllTokens}
 use Rattle.text.specs.declared.fault.TextFault.{TextFault}
 use Rattle.text.specs.declared.fault.TextFault.the-variants.{Stray, Misplaced}
 use Rattle.formula.specs.Firsts.{Fails}
 use Rattle.formula.specs.Names.{Resolves, uses, Known, references, Filed}
+use Rattle.formula.specs.Reading.{Parses, Formula}
 use Rattle.formula.specs.declared.expected.Head.{Head}
 use Rattle.formula.specs.declared.parser.Reach.{Reach}
 
@@ -153,4 +156,30 @@ pub record Ready (text : List ℕ) (binders : List (RefT (List ℕ))) (depth at 
   pub few : length binders ≤ 65536
   pub shallow : depth ≤ from
   pub low : at ≤ 2 * from
-  pub short : 2 * length text + 2 < 2 ^ 64
+  pub short : 2 * length text < 2 ^ 64
+
+-- The whole text was read. Its names are settled where the binders find room, and its term is written where the memory
+-- has room for it.
+pub record Parsed (text : List ℕ) (es : List Entry) (filed cap : ℕ) (out out′ : List TermNode) (r : Reach) : Type 0 where
+  pub tree : Tree
+  pub parses : Parses text tree
+  pub count : r .count ≡ nodes tree
+  pub filing : Fails (Filed filed) (λ x. x .at) (references tree) (r .unfiled)
+  pub naming : nodes tree ≤ cap → Fails (Known es) (λ u. u .at) (uses [] tree) (r .unknown)
+  pub writing : nodes tree ≤ cap → r .unknown ≡ None → nodes tree ≤ length out → nodes tree ≤ 1024 → (t : Term) × Resolves es [] tree t × (out′ ≡ paste out 0 (prefix t) (nodes tree))
+
+-- why the text is no expression
+abbrev pub NotParsed : List ℕ → TextFault → Type 0
+NotParsed text (Stray p) = NotAllTokens text p
+NotParsed text (Misplaced p) = (ts : List Token) × Tokens text ts × FirstBad ts (length text) p
+
+-- the front of the memory is the text's term, the only one that it has
+pub record Drafted (es : List Entry) (filed : ℕ) (text : List ℕ) (memory : List TermNode) (n : ℕ) : Type 0 where
+  pub term : Term
+  pub formula : Formula es text term
+  pub only : (t : Term) → Formula es text t → t ≡ term
+  pub below : All (Filed filed) (references (formula .tree))
+  pub count : n ≡ length (prefix term)
+  pub few : n ≤ 1024
+  pub fits : n ≤ length memory
+  pub front : take n memory ≡ prefix term

@@ -4,3 +4,4 @@ pub mod fault;
 mod memory;
 mod names;
 mod parser;
+pub mod reader;

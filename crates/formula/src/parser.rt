@@ -2,7 +2,7 @@
 // text falling. The pass counts nodes, settles names and references, and writes the term where there is room.
 ghost use mathlib.Core.Path.{_≡_};
 ghost use mathlib.Core.List.{List};
-ghost use Prim.Native.Nat.{ℕ, _+_, _*_, _<_, _≤_};
+ghost use Prim.Native.Nat.{ℕ, _+_, _*_, _^_, _<_, _≤_};
 ghost use denote.Ref.{now as held};
 ghost use lib.ListN.{length, take};
 ghost use Rattle.std.specs.Options.{Cases as BySome};
@@ -10,7 +10,7 @@ ghost use Rattle.std.specs.Results.{Cases};
 ghost use Rattle.catalogue.specs.Names.{Name};
 ghost use Rattle.catalogue.specs.Entries.{Entry};
 ghost use Rattle.formula.specs.Names.{Known};
-ghost use Rattle.formula.specs.Parsing.{scope-of, Leaf, FirstOf, Settled, Unfiled, Ready, Ended, Covered, BlamesExpression, BlamesApplication, BlamesNext};
+ghost use Rattle.formula.specs.Parsing.{scope-of, Leaf, FirstOf, Settled, Unfiled, Ready, Ended, Covered, BlamesExpression, BlamesApplication, BlamesNext, Parsed, NotParsed};
 ghost use Rattle.grammar.specs.Grammar.{expression as anExpression, application as anApplication, atom as anAtom};
 use crate::expected::abstraction_head;
 use crate::expected::closing;
@@ -143,6 +143,20 @@ impl<'a, C: Catalogue> Reader<'a, C> {
                 _ => Err(TextFault::Misplaced(found.at)),
             },
             None => Err(TextFault::Misplaced(self.lexer.text.len())),
+        }
+    }
+
+    // The whole text as one expression.
+    pub fn whole(&self, binders: &mut [&'a [u8]], out: &mut [TermNode]) -> Result<Reach, TextFault>
+        requires few { ⌜ length (now binders) ≤ 65536 ⌝ }
+        requires short { ⌜ 2 * length (held (now self .lexer .text)) < 2 ^ 64 ⌝ }
+        ensures { λ r. ⌜ Cases r (λ q. Parsed (held (now (self .entry) .lexer .text)) (entries (held (now (self .entry) .catalogue))) (now (self .entry) .filed) (length (now (binders .entry))) (now (out .entry)) (now (out .exit)) q) (λ f. NotParsed (held (now (self .entry) .lexer .text)) f) ⌝ }
+    {
+        self.lexer.scan()?;
+        let all = self.expression(0, binders, 0, out, 0)?;
+        match self.lexer.next(all.end)? {
+            Some(found) => Err(TextFault::Misplaced(found.at)),
+            None => Ok(all),
         }
     }
 }

@@ -100,13 +100,12 @@ none-left : {p n : ℕ} {vs : List Token} → Scans p [] vs n [] → vs ≡ []
 none-left here = refl
 none-left (word f s) = absurd (nothing-named f)
 
+-- a text has one list of tokens at most
+pub one-reading : (text : List ℕ) (ts us : List Token) → Tokens text ts → Tokens text us → us ≡ ts
+one-reading text ts us s r = let o = ahead r s in sym (o .1 ∙ ap (λ l. us ++ l) (none-left (o .2)) ∙ append-nil us)
+
 pub all-tokens : (text : List ℕ) (ts : List Token) → Tokens text ts → AllTokens text
-all-tokens text ts s =
-    record {
-      tokens = ts;
-      spelled = s;
-      only = λ us r. let o = ahead r s in sym (o .1 ∙ ap (λ l. us ++ l) (none-left (o .2)) ∙ append-nil us);
-    }
+all-tokens text ts s = record { tokens = ts; spelled = s; only = λ us r. one-reading text ts us s r }
 
 -- what is refused after some tokens is the first that is refused
 pub refused-after : (text : List ℕ) (at : ℕ) (ts : List Token) (f : TextFault) → Scans 0 text ts at (drop at text) → Next text at (Err f) → Scanned text (Err f)
