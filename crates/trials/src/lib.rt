@@ -1,0 +1,3 @@
+// Trials of the public calls on examples.
+#[cfg(test)]
+mod reading;
