@@ -3,6 +3,7 @@ ghost use mathlib.Core.Path.{_≡_};
 ghost use Prim.Native.Nat.{ℕ, _<_, _≤_};
 ghost use lib.ListN.{length, getD};
 ghost use Rattle.graph.specs.Graph.{view, graph, Solves, Sound, alive, Kept, Always, Still};
+ghost use Rattle.graph.specs.Unifying.{Merged, Unified};
 ghost use Rattle.types.specs.Lists.{zero-node};
 ghost use Rattle.types.specs.Types.{Ty};
 use types::BASE;
@@ -70,4 +71,109 @@ pub fn find_root(memory: &mut [TypeNode], used: usize, start: u16) -> u16
         at = next;
     }
     at
+}
+
+// What a merge leaves to do: nothing, nothing that could be done, or two pairs of parts that are still to be made alike.
+#[derive(Clone, Copy)]
+enum Step {
+    Same,
+    Clash,
+    Both(u16, u16, u16, u16),
+}
+
+// Merges two classes, given by their representatives: the higher becomes a link to the lower, which takes over what the
+// higher one said where it said nothing itself.
+fn merge(memory: &mut [TypeNode], used: usize, low: u16, high: u16) -> Step
+    requires fits { ⌜ used ≤ length (now memory) ⌝ }
+    requires sound { ⌜ Sound (graph (now memory) used) ⌝ }
+    requires order { ⌜ low < high ⌝ }
+    requires within { ⌜ high < used ⌝ }
+    requires lower { ⌜ alive (view (getD (now memory) low zero-node)) ≡ 1 ⌝ }
+    requires upper { ⌜ alive (view (getD (now memory) high zero-node)) ≡ 1 ⌝ }
+    ensures { λ r. ⌜ Merged (graph (now (memory .entry)) used) (graph (now (memory .exit)) used) low high r ⌝ }
+{
+    let upper = memory[high as usize];
+    let above = look(upper);
+    let link = TypeNode { kind: LINK, left: low, right: 0 };
+    match look(memory[low as usize]) {
+        Node::Var => {
+            memory[low as usize] = upper;
+            memory[high as usize] = link;
+            Step::Same
+        }
+        Node::Base(p) => match above {
+            Node::Var => {
+                memory[high as usize] = link;
+                Step::Same
+            }
+            Node::Base(q) => {
+                if p == q {
+                    memory[high as usize] = link;
+                    Step::Same
+                } else {
+                    Step::Clash
+                }
+            }
+            Node::Branch(_, _, _) => Step::Clash,
+            Node::Link(_) => unreachable(),
+        },
+        Node::Branch(j, l, r) => match above {
+            Node::Var => {
+                memory[high as usize] = link;
+                Step::Same
+            }
+            Node::Branch(k, m, s) => {
+                if j == k {
+                    memory[high as usize] = link;
+                    Step::Both(l, m, r, s)
+                } else {
+                    Step::Clash
+                }
+            }
+            Node::Base(_) => Step::Clash,
+            Node::Link(_) => unreachable(),
+        },
+        Node::Link(_) => unreachable(),
+    }
+}
+
+// Merges the classes of `a` and `b`.
+fn join(memory: &mut [TypeNode], used: usize, a: u16, b: u16) -> Step
+    requires fits { ⌜ used ≤ length (now memory) ⌝ }
+    requires sound { ⌜ Sound (graph (now memory) used) ⌝ }
+    requires first { ⌜ a < used ⌝ }
+    requires second { ⌜ b < used ⌝ }
+    ensures { λ r. ⌜ Merged (graph (now (memory .entry)) used) (graph (now (memory .exit)) used) a b r ⌝ }
+{
+    let x = find_root(memory, used, a);
+    let y = find_root(memory, used, b);
+    if x < y {
+        merge(memory, used, x, y)
+    } else if y < x {
+        merge(memory, used, y, x)
+    } else {
+        Step::Same
+    }
+}
+
+// Gives `a` and `b` one type, with whatever follows from it, or says that no types do. Loops among the classes are not
+// looked for. Each call of itself has fewer classes before it.
+pub fn unify(memory: &mut [TypeNode], used: usize, a: u16, b: u16) -> bool
+    requires fits { ⌜ used ≤ length (now memory) ⌝ }
+    requires sound { ⌜ Sound (graph (now memory) used) ⌝ }
+    requires first { ⌜ a < used ⌝ }
+    requires second { ⌜ b < used ⌝ }
+    ensures { λ r. ⌜ Unified (graph (now (memory .entry)) used) (graph (now (memory .exit)) used) a b r ⌝ }
+{
+    match join(memory, used, a, b) {
+        Step::Same => true,
+        Step::Clash => false,
+        Step::Both(l, m, r, s) => {
+            if unify(memory, used, l, m) {
+                unify(memory, used, r, s)
+            } else {
+                false
+            }
+        }
+    }
 }
