@@ -1,0 +1,5 @@
+pub mod Graphs
+pub mod Keys
+pub mod Chains
+pub mod Finding
+pub mod Closing

@@ -1,0 +1,134 @@
+// The walk over a type graph to the normal list of the types that its nodes stand for.
+ghost use mathlib.Core.Path.{_≡_};
+ghost use mathlib.Core.List.{List, map};
+ghost use Prim.Native.Nat.{ℕ, _+_, _-_, _<_, _≤_};
+ghost use lib.ListN.{length, getD, set};
+ghost use Rattle.std.specs.Options.{Cases as BySome};
+ghost use Rattle.types.specs.Types.{Ty};
+ghost use Rattle.graph.specs.Graph.{view, alive};
+ghost use Rattle.graph.specs.declared.Node.the-variants.{Var};
+ghost use Rattle.walk.specs.Reads.{root, Flat};
+ghost use Rattle.walk.specs.Table.{bucket};
+ghost use Rattle.walk.specs.Work.{work, key-of, part, Marked, Origin, State, Room, Complete, Closed};
+use graph::Node;
+use types::TypeNode;
+
+// No types solve the graph: a class would be a part of itself.
+#[derive(Clone, Copy, Debug, PartialEq)]
+pub enum Looped {
+    Loop,
+}
+
+// The node that stands for the class of `at`.
+fn root_of(graph: &[TypeNode], at: u16) -> u16
+    requires { ⌜ at < length (now graph) ⌝ }
+    ensures { λ r. ⌜ r ≡ root (map view (now (graph .entry))) at ⌝ }
+{
+    match graph::look(graph[at as usize]) {
+        Node::Var => at,
+        Node::Base(_) => at,
+        Node::Branch(_, _, _) => at,
+        Node::Link(next) => next,
+    }
+}
+
+// Where the type of `at` stands, whose class is done.
+fn place_of(graph: &[TypeNode], marks: &[u32], at: u16) -> u16
+    requires inside { ⌜ at < length (now graph) ⌝ }
+    requires known { ⌜ root (map view (now graph)) at < length (now marks) ⌝ }
+    requires done { ⌜ 2 ≤ getD (now marks) (root (map view (now graph)) at) 0 ⌝ }
+    requires few { ⌜ getD (now marks) (root (map view (now graph)) at) 0 < 65538 ⌝ }
+    ensures { λ r. ⌜ r ≡ getD (now (marks .entry)) (root (map view (now (graph .entry))) at) 0 - 2 ⌝ }
+{
+    (marks[root_of(graph, at) as usize] - 2) as u16
+}
+
+// What tells the type of the node `i`, which is done and stands for its class, among the parts listed so far.
+fn key_at(graph: &[TypeNode], marks: &[u32], i: u16) -> TypeNode
+    requires flat { ⌜ Flat (map view (now graph)) ⌝ }
+    requires long { ⌜ length (now marks) ≡ length (now graph) ⌝ }
+    requires few { ⌜ length (now graph) ≤ 65536 ⌝ }
+    requires origin { ⌜ Origin (map view (now graph)) (now marks) i (getD (now marks) i 0 - 2) ⌝ }
+    requires marked { ⌜ ((ps : List Ty) × (length ps ≤ length (now graph)) × Marked (map view (now graph)) (now marks) ps) ⌝ }
+    ensures { λ r. ⌜ ((ps : List Ty) → Marked (map view (now (graph .entry))) (now (marks .entry)) ps → r ≡ key-of ps (part ps (getD (now (marks .entry)) i 0 - 2))) ⌝ }
+{
+    match graph::look(graph[i as usize]) {
+        Node::Var => TypeNode { kind: 0, left: i, right: 0 },
+        Node::Base(c) => TypeNode { kind: 1, left: c, right: 0 },
+        Node::Branch(kind, l, r) => TypeNode { kind, left: place_of(graph, marks, l), right: place_of(graph, marks, r) },
+        Node::Link(_) => unreachable(),
+    }
+}
+
+fn bucket_of(x: TypeNode, size: usize) -> usize
+    requires { ⌜ 0 < size ⌝ }
+    ensures is { λ r. ⌜ r ≡ bucket size x ⌝ }
+    ensures below { λ r. ⌜ r < size ⌝ }
+{
+    (x.kind as usize + x.left as usize * 31 + x.right as usize * 1021) % size
+}
+
+// The place of the part with the key `x`.
+fn find(graph: &[TypeNode], marks: &[u32], origins: &[u32], heads: &[u32], nexts: &[u32], count: u32, x: TypeNode) -> Option<u16>
+    requires flat { ⌜ Flat (map view (now graph)) ⌝ }
+    requires some { ⌜ 0 < length (now graph) ⌝ }
+    requires room { ⌜ Room (length (now graph)) (work (now marks) (now origins) (now heads) (now nexts) count) ⌝ }
+    requires state { ⌜ ((ps : List Ty) × State (map view (now graph)) (work (now marks) (now origins) (now heads) (now nexts) count) ps) ⌝ }
+    ensures { λ r. ⌜ ((ps : List Ty) → State (map view (now (graph .entry))) (work (now (marks .entry)) (now (origins .entry)) (now (heads .entry)) (now (nexts .entry)) count) ps → BySome r ((k : ℕ) → k < count → key-of ps (part ps k) ≡ x → ⊥) (λ p. (p < count) × (key-of ps (part ps p) ≡ x))) ⌝ }
+{
+    let mut at = heads[bucket_of(x, heads.len())];
+    while at > 0 {
+        let p = at - 1;
+        let y = key_at(graph, marks, origins[p as usize] as u16);
+        if y.kind == x.kind && y.left == x.left && y.right == x.right {
+            return Some(p as u16);
+        }
+        at = nexts[p as usize];
+    }
+    None
+}
+
+// Puts a part with the key `x` behind the others, with the node `i` as its origin.
+fn append(marks: &mut [u32], origins: &mut [u32], heads: &mut [u32], nexts: &mut [u32], count: &mut u32, i: u16, x: TypeNode) -> u16
+    requires inside { ⌜ i < length (now marks) ⌝ }
+    requires some { ⌜ 0 < length (now heads) ⌝ }
+    requires origin { ⌜ now count < length (now origins) ⌝ }
+    requires next { ⌜ now count < length (now nexts) ⌝ }
+    requires few { ⌜ now count < 65536 ⌝ }
+    ensures place { λ r. ⌜ r ≡ now (count .entry) ⌝ }
+    ensures count { λ _. ⌜ now (count .exit) ≡ now (count .entry) + 1 ⌝ }
+    ensures marks { λ _. ⌜ now (marks .exit) ≡ set (now (marks .entry)) i (now (count .entry) + 2) ⌝ }
+    ensures origins { λ _. ⌜ now (origins .exit) ≡ set (now (origins .entry)) (now (count .entry)) i ⌝ }
+    ensures heads { λ _. ⌜ now (heads .exit) ≡ set (now (heads .entry)) (bucket (length (now (heads .entry))) x) (now (count .entry) + 1) ⌝ }
+    ensures nexts { λ _. ⌜ now (nexts .exit) ≡ set (now (nexts .entry)) (now (count .entry)) (getD (now (heads .entry)) (bucket (length (now (heads .entry))) x) 0) ⌝ }
+{
+    let place = *count;
+    let h = bucket_of(x, heads.len());
+    marks[i as usize] = place + 2;
+    origins[place as usize] = i as u32;
+    nexts[place as usize] = heads[h];
+    heads[h] = place + 1;
+    *count = place + 1;
+    place as u16
+}
+
+// Finds the part with the key `x`, the type of the node `i`, or puts it behind the others; the node is then done.
+fn close(graph: &[TypeNode], marks: &mut [u32], origins: &mut [u32], heads: &mut [u32], nexts: &mut [u32], count: &mut u32, i: u16, x: TypeNode) -> u16
+    requires flat { ⌜ Flat (map view (now graph)) ⌝ }
+    requires inside { ⌜ i < length (now graph) ⌝ }
+    requires stands { ⌜ alive (getD (map view (now graph)) i Var) ≡ 1 ⌝ }
+    requires opened { ⌜ getD (now marks) i 0 ≡ 1 ⌝ }
+    requires complete { ⌜ Complete (map view (now graph)) (now marks) i ⌝ }
+    requires fits { ⌜ now count < length (now graph) ⌝ }
+    requires room { ⌜ Room (length (now graph)) (work (now marks) (now origins) (now heads) (now nexts) (now count)) ⌝ }
+    requires state { ⌜ ((ps : List Ty) × State (map view (now graph)) (work (now marks) (now origins) (now heads) (now nexts) (now count)) ps) ⌝ }
+    ensures { λ r. ⌜ Closed (map view (now (graph .entry))) (work (now (marks .entry)) (now (origins .entry)) (now (heads .entry)) (now (nexts .entry)) (now (count .entry))) (work (now (marks .exit)) (now (origins .exit)) (now (heads .exit)) (now (nexts .exit)) (now (count .exit))) i x r ⌝ }
+{
+    match find(graph, marks, origins, heads, nexts, *count, x) {
+        Some(place) => {
+            marks[i as usize] = place as u32 + 2;
+            place
+        }
+        None => append(marks, origins, heads, nexts, count, i, x),
+    }
+}
