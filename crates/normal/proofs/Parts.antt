@@ -282,8 +282,8 @@ firsts-grows ps (x ∷ xs) =
 pub firsts-has : (ps xs : List Ty) (t : Ty) → has ps t ≡ true → has (firsts ps xs) t ≡ true
 firsts-has ps xs t m = let g = firsts-grows ps xs in subst (λ (l : List Ty). has l t ≡ true) (sym (g .1)) (has-left ps (g .0) t m)
 
-pub firsts-index : (ps xs : List Ty) (t : Ty) → has ps t ≡ true → place (firsts ps xs) t ≡ place ps t
-firsts-index ps xs t m = let g = firsts-grows ps xs in ap (λ (l : List Ty). place l t) (g .1) ∙ place-left ps (g .0) t m
+pub firsts-place : (ps xs : List Ty) (t : Ty) → has ps t ≡ true → place (firsts ps xs) t ≡ place ps t
+firsts-place ps xs t m = let g = firsts-grows ps xs in ap (λ (l : List Ty). place l t) (g .1) ∙ place-left ps (g .0) t m
 
 pub visit-built : (t : Ty) {ps : List Ty} → Proper t → Built ps → Built (firsts ps (postorder t)) × (has (firsts ps (postorder t)) t ≡ true)
 visit-built (variable i) {ps} w b = (add-built b (variable i) tt, add-has ps (variable i))

@@ -4,6 +4,7 @@ use mathlib.Core.List.{List, [], _∷_, map}
 use Prim.Native.Nat.{ℕ, zero, suc, _+_, _<_, _≤_}
 use native.Mathlib.Omega.{arith}
 use lib.ListN.{length, getD}
+use Rattle.std.proofs.shelf.Lists.{length-map}
 use Rattle.types.specs.declared.TypeNode.{TypeNode}
 use Rattle.types.specs.Types.{Ty, variable, base, branch, apply}
 use Rattle.types.specs.Lists.{zero-node}
@@ -106,3 +107,10 @@ root-alive ns i = go (getD ns i Var)
 
 pub not-link : (ns : List Node) (i j : ℕ) → alive (getD ns i Var) ≡ 1 → getD ns i Var ≡ Link j → ⊥
 not-link ns i j a e = omega (arith, sym (ap alive e) ∙ a)
+
+-- the node that stands for the class of `at` is in the graph, and is no link
+pub root-within : (ts : List TypeNode) (at i : ℕ) → Flat (map view ts) → at < length ts → i ≡ root (map view ts) at → (i < length ts) × (alive (getD (map view ts) i Var) ≡ 1)
+root-within ts at i flat h e =
+    let n = length-map ts view in
+    let h′ : at < length (map view ts) = omega arith in
+    (omega (arith, root-inside (map view ts) flat at h′), ap (λ (j : ℕ). alive (getD (map view ts) j Var)) e ∙ flat .straight at h′)

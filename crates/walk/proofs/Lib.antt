@@ -3,3 +3,4 @@ pub mod Keys
 pub mod Chains
 pub mod Finding
 pub mod Closing
+pub mod Steps

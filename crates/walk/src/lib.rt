@@ -9,7 +9,7 @@ ghost use Rattle.graph.specs.Graph.{view, alive};
 ghost use Rattle.graph.specs.declared.Node.the-variants.{Var};
 ghost use Rattle.walk.specs.Reads.{root, Flat};
 ghost use Rattle.walk.specs.Table.{bucket};
-ghost use Rattle.walk.specs.Work.{work, key-of, part, Marked, Origin, State, Room, Complete, Closed};
+ghost use Rattle.walk.specs.Work.{work, key-of, part, Marked, Origin, State, Room, Complete, Closed, Outcome};
 use graph::Node;
 use types::TypeNode;
 
@@ -130,5 +130,35 @@ fn close(graph: &[TypeNode], marks: &mut [u32], origins: &mut [u32], heads: &mut
             place
         }
         None => append(marks, origins, heads, nexts, count, i, x),
+    }
+}
+
+// Lists the type of the node `at`, its left part before its right one and both before itself, and says where it stands.
+// A class that is done is not walked again; one that is met while it is open is a loop.
+fn walk(graph: &[TypeNode], at: u16, marks: &mut [u32], origins: &mut [u32], heads: &mut [u32], nexts: &mut [u32], count: &mut u32) -> Result<u16, Looped>
+    requires inside { ⌜ at < length (now graph) ⌝ }
+    requires flat { ⌜ Flat (map view (now graph)) ⌝ }
+    requires room { ⌜ Room (length (now graph)) (work (now marks) (now origins) (now heads) (now nexts) (now count)) ⌝ }
+    requires state { ⌜ ((ps : List Ty) × State (map view (now graph)) (work (now marks) (now origins) (now heads) (now nexts) (now count)) ps) ⌝ }
+    ensures { λ r. ⌜ Outcome (map view (now (graph .entry))) (work (now (marks .entry)) (now (origins .entry)) (now (heads .entry)) (now (nexts .entry)) (now (count .entry))) (work (now (marks .exit)) (now (origins .exit)) (now (heads .exit)) (now (nexts .exit)) (now (count .exit))) at r ⌝ }
+{
+    let i = root_of(graph, at);
+    let mark = marks[i as usize];
+    if mark == 1 {
+        return Err(Looped::Loop);
+    }
+    if mark >= 2 {
+        return Ok((mark - 2) as u16);
+    }
+    marks[i as usize] = 1;
+    match graph::look(graph[i as usize]) {
+        Node::Var => Ok(close(graph, marks, origins, heads, nexts, count, i, TypeNode { kind: 0, left: i, right: 0 })),
+        Node::Base(c) => Ok(close(graph, marks, origins, heads, nexts, count, i, TypeNode { kind: 1, left: c, right: 0 })),
+        Node::Branch(kind, l, r) => {
+            let left = walk(graph, l, marks, origins, heads, nexts, count)?;
+            let right = walk(graph, r, marks, origins, heads, nexts, count)?;
+            Ok(close(graph, marks, origins, heads, nexts, count, i, TypeNode { kind, left, right }))
+        }
+        Node::Link(_) => unreachable(),
     }
 }
