@@ -4,3 +4,4 @@ pub mod Chains
 pub mod Finding
 pub mod Closing
 pub mod Steps
+pub mod Flattening

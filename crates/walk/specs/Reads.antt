@@ -37,8 +37,12 @@ Kind (Base c) = Unit {0}
 Kind (Branch k l r) = 2 ≤ k
 Kind (Link j) = Unit {0}
 
+-- node i, or the node that its link goes to, stands for the class
+abbrev pub Straight : List Node → ℕ → Type 0
+Straight ns i = alive (getD ns (root ns i) Var) ≡ 1
+
 -- a graph whose links all go straight to the node that stands for the class
 pub record Flat (ns : List Node) : Type 0 where
   pub sound : Sound ns
   pub kinds : (i : ℕ) → Kind (getD ns i Var)
-  pub straight : (i : ℕ) → i < length ns → alive (getD ns (root ns i) Var) ≡ 1
+  pub straight : (i : ℕ) → i < length ns → Straight ns i

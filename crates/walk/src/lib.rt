@@ -5,9 +5,9 @@ ghost use Prim.Native.Nat.{ℕ, _+_, _-_, _<_, _≤_};
 ghost use lib.ListN.{length, getD, set};
 ghost use Rattle.std.specs.Options.{Cases as BySome};
 ghost use Rattle.types.specs.Types.{Ty};
-ghost use Rattle.graph.specs.Graph.{view, alive};
+ghost use Rattle.graph.specs.Graph.{view, graph, Sound, alive, Kept, Always};
 ghost use Rattle.graph.specs.declared.Node.the-variants.{Var};
-ghost use Rattle.walk.specs.Reads.{root, Flat};
+ghost use Rattle.walk.specs.Reads.{root, Straight, Flat};
 ghost use Rattle.walk.specs.Table.{bucket};
 ghost use Rattle.walk.specs.Work.{work, key-of, part, Marked, Origin, State, Room, Complete, Closed, Outcome};
 use graph::Node;
@@ -17,6 +17,35 @@ use types::TypeNode;
 #[derive(Clone, Copy, Debug, PartialEq)]
 pub enum Looped {
     Loop,
+}
+
+// Lets a link at `i` go where the link goes that it leads to.
+fn straighten(memory: &mut [TypeNode], used: usize, i: usize)
+    requires fits { ⌜ used ≤ length (now memory) ⌝ }
+    requires within { ⌜ i < used ⌝ }
+    requires sound { ⌜ Sound (graph (now memory) used) ⌝ }
+    requires below { ⌜ ((k : ℕ) → k < i → Straight (graph (now memory) used) k) ⌝ }
+    ensures kept { λ _. ⌜ Kept (graph (now (memory .entry)) used) (graph (now (memory .exit)) used) Always Always ⌝ }
+    ensures straight { λ _. ⌜ ((k : ℕ) → k < i + 1 → Straight (graph (now (memory .exit)) used) k) ⌝ }
+{
+    if let Node::Link(next) = graph::look(memory[i]) {
+        let there = memory[next as usize];
+        if let Node::Link(far) = graph::look(there) {
+            memory[i] = TypeNode { kind: graph::LINK, left: far, right: 0 };
+        }
+    }
+}
+
+// Lets every link go straight to the node that stands for its class, from the lowest on.
+fn flatten(memory: &mut [TypeNode], used: usize)
+    requires fits { ⌜ used ≤ length (now memory) ⌝ }
+    requires sound { ⌜ Sound (graph (now memory) used) ⌝ }
+    ensures kept { λ _. ⌜ Kept (graph (now (memory .entry)) used) (graph (now (memory .exit)) used) Always Always ⌝ }
+    ensures flat { λ _. ⌜ Flat (graph (now (memory .exit)) used) ⌝ }
+{
+    for i in 0..used {
+        straighten(memory, used, i);
+    }
 }
 
 // The node that stands for the class of `at`.
