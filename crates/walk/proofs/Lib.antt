@@ -5,3 +5,4 @@ pub mod Finding
 pub mod Closing
 pub mod Steps
 pub mod Flattening
+pub mod Roots

@@ -1,3 +1,4 @@
 pub mod Reads
 pub mod Table
 pub mod Work
+pub mod Listing

@@ -1,6 +1,6 @@
 // The walk over a type graph to the normal list of the types that its nodes stand for.
 ghost use mathlib.Core.Path.{_≡_};
-ghost use mathlib.Core.List.{List, map};
+ghost use mathlib.Core.List.{List, [], map};
 ghost use Prim.Native.Nat.{ℕ, _+_, _-_, _<_, _≤_};
 ghost use lib.ListN.{length, getD, set};
 ghost use Rattle.std.specs.Options.{Cases as BySome};
@@ -10,6 +10,7 @@ ghost use Rattle.graph.specs.declared.Node.the-variants.{Var};
 ghost use Rattle.walk.specs.Reads.{root, Straight, Flat};
 ghost use Rattle.walk.specs.Table.{bucket};
 ghost use Rattle.walk.specs.Work.{work, key-of, part, Marked, Origin, State, Room, Complete, Closed, Outcome};
+ghost use Rattle.walk.specs.Listing.{Shut, Roots, Rest};
 use graph::Node;
 use types::TypeNode;
 
@@ -190,4 +191,34 @@ fn walk(graph: &[TypeNode], at: u16, marks: &mut [u32], origins: &mut [u32], hea
         }
         Node::Link(_) => unreachable(),
     }
+}
+
+// Lists the types of the roots, one after the other, and writes for each where it stands; says how many places there are.
+fn walk_roots(graph: &[TypeNode], roots: &mut [u32], marks: &mut [u32], origins: &mut [u32], heads: &mut [u32], nexts: &mut [u32], count: &mut u32) -> Result<u32, Looped>
+    requires inside { ⌜ ((k : ℕ) → k < length (now roots) → getD (now roots) k 0 < length (now graph)) ⌝ }
+    requires flat { ⌜ Flat (map view (now graph)) ⌝ }
+    requires room { ⌜ Room (length (now graph)) (work (now marks) (now origins) (now heads) (now nexts) (now count)) ⌝ }
+    requires start { ⌜ State (map view (now graph)) (work (now marks) (now origins) (now heads) (now nexts) (now count)) [] ⌝ }
+    requires shut { ⌜ Shut (now marks) ⌝ }
+    ensures { λ r. ⌜ Roots (map view (now (graph .entry))) (work (now (marks .exit)) (now (origins .exit)) (now (heads .exit)) (now (nexts .exit)) (now (count .exit))) (now (roots .entry)) (now (roots .exit)) r ⌝ }
+{
+    for i in 0..roots.len() {
+        let place = walk(graph, roots[i] as u16, marks, origins, heads, nexts, count)?;
+        roots[i] = place as u32;
+    }
+    Ok(*count)
+}
+
+// Lists the types of all nodes, behind what is listed.
+fn walk_rest(graph: &[TypeNode], marks: &mut [u32], origins: &mut [u32], heads: &mut [u32], nexts: &mut [u32], count: &mut u32) -> Result<u32, Looped>
+    requires flat { ⌜ Flat (map view (now graph)) ⌝ }
+    requires room { ⌜ Room (length (now graph)) (work (now marks) (now origins) (now heads) (now nexts) (now count)) ⌝ }
+    requires state { ⌜ ((ps : List Ty) × State (map view (now graph)) (work (now marks) (now origins) (now heads) (now nexts) (now count)) ps) ⌝ }
+    requires shut { ⌜ Shut (now marks) ⌝ }
+    ensures { λ r. ⌜ Rest (map view (now (graph .entry))) (work (now (marks .entry)) (now (origins .entry)) (now (heads .entry)) (now (nexts .entry)) (now (count .entry))) (work (now (marks .exit)) (now (origins .exit)) (now (heads .exit)) (now (nexts .exit)) (now (count .exit))) r ⌝ }
+{
+    for i in 0..graph.len() {
+        walk(graph, i as u16, marks, origins, heads, nexts, count)?;
+    }
+    Ok(*count)
 }
