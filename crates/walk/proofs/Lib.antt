@@ -6,3 +6,4 @@ pub mod Closing
 pub mod Steps
 pub mod Flattening
 pub mod Roots
+pub mod Gathering

@@ -14,6 +14,8 @@ ghost use Rattle.walk.specs.Listing.{Shut, Roots, Rest};
 use graph::Node;
 use types::TypeNode;
 
+mod gather;
+
 // No types solve the graph: a class would be a part of itself.
 #[derive(Clone, Copy, Debug, PartialEq)]
 pub enum Looped {
