@@ -17,6 +17,7 @@ use Rattle.graph.proofs.Memory.{graph-set, graph-at, graph-length, skip}
 use Rattle.graph.specs.declared.Node.{Node}
 use Rattle.graph.specs.declared.Node.the-variants.{Var, Base, Branch, Link}
 use Rattle.walk.specs.Reads.{target, root, Kind, Straight, Flat}
+use Rattle.walk.specs.Listing.{SimpleNode, SimpleGraph}
 use Rattle.walk.proofs.Graphs.{nodes-at, root-alive}
 
 pub kind-view : (x : TypeNode) → Kind (view x)
@@ -72,6 +73,16 @@ module _ (ts : List TypeNode) (n i : ℕ) (fits : n ≤ length ts) (within : i <
 
       pub skipped-kept : Kept (graph ts n) (graph after n) Always Always
       skipped-kept = skipped-link .0
+
+      pub skipped-simple : SimpleGraph (graph ts n) → SimpleGraph (graph after n)
+      skipped-simple simple k h =
+          let ns = graph ts n in
+          let same : graph after n ≡ set ns i (Link far) = graph-set ts n i (node 255 far 0) in
+          subst (λ (l : List Node). SimpleNode (getD l k Var)) (sym same)
+          (⊎-elim
+          (λ (q : k ≡ i). subst (λ (j : ℕ). SimpleNode (getD (set ns i (Link far)) j Var)) (sym q) (subst SimpleNode (sym (getD-set-same ns i (Link far) Var (omega (arith, graph-length ts n fits)))) tt))
+          (λ (ne : k ≢ i). subst SimpleNode (sym (getD-set-other ns i k (Link far) Var ne)) (simple k (omega (arith, ap length same, length-set ns i (Link far)))))
+          (cases-eq k i))
 
       pub skipped-straight : (k : ℕ) → k < i + 1 → Straight (graph after n) k
       skipped-straight k h =

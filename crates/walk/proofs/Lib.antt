@@ -7,3 +7,4 @@ pub mod Steps
 pub mod Flattening
 pub mod Roots
 pub mod Gathering
+pub mod Whole

@@ -6,7 +6,7 @@ use Prim.Native.Nat.{ℕ, zero, suc, _+_, _-_, _<_, _≤_}
 use native.Mathlib.Omega.{arith}
 use lib.ListN.{length, getD, set}
 use Rattle.std.specs.shelf.Lists.{All}
-use Rattle.std.proofs.shelf.Lists.{append-nil, length-push, getD-push, getD-append-left, getD-set-same, getD-set-other}
+use Rattle.std.proofs.shelf.Lists.{append-nil, length-map, length-push, getD-push, getD-append-left, getD-set-same, getD-set-other}
 use Rattle.std.proofs.shelf.Elements.{all-from-getD}
 use Rattle.std.proofs.shelf.Tests.{cases-eq}
 use Rattle.types.specs.Types.{Ty, variable}
@@ -15,10 +15,11 @@ use Rattle.normal.specs.Built.{Built, none}
 use Rattle.normal.specs.Laws.{Proper}
 use Rattle.normal.proofs.Parts.{firsts-append, firsts-place}
 use Rattle.normal.proofs.Meaning.{postorders-append, parts-have}
-use Rattle.graph.specs.Graph.{Solves}
+use Rattle.types.specs.declared.TypeNode.{TypeNode}
+use Rattle.graph.specs.Graph.{view, Solves}
 use Rattle.graph.specs.declared.Node.{Node}
 use Rattle.walk.specs.Reads.{Reads, Flat}
-use Rattle.walk.specs.Work.{Work, State, Grown, Walked, Above}
+use Rattle.walk.specs.Work.{Work, State, Room, Grown, Walked, Above}
 use Rattle.walk.specs.Listing.{Shut, Unsolvable, Sofar, Placed, Rooted}
 use Rattle.walk.proofs.Graphs.{reads-proper}
 
@@ -77,11 +78,19 @@ placed-more ns w w′ r qs i p flat h s x placed k l =
 pub walked-at : (ns : List Node) (w w′ : Work) (at to p : ℕ) → at ≡ to → Walked ns w w′ at p → Walked ns w w′ to p
 walked-at ns w w′ at to p e x = subst (λ (j : ℕ). Walked ns w w′ j p) e x
 
-pub rooted : (ns : List Node) (w : Work) (rs qs : List ℕ) (i : ℕ) → i ≡ length rs → (s : Sofar ns w (λ k. getD rs k 0) [] i) → Placed qs (s .types) i → Shut (w .marks) → Rooted ns w rs qs (w .count)
-rooted ns w rs qs i e s placed shut =
+pub rooted : (ns : List Node) (w : Work) (rs qs : List ℕ) (i : ℕ) → i ≡ length rs → (s : Sofar ns w (λ k. getD rs k 0) [] i) → Placed qs (s .types) i → Shut (w .marks) → Room (length ns) w → Rooted ns w rs qs (w .count)
+rooted ns w rs qs i e s placed shut room =
     record {
       sofar = record { types = s .types; long = s .long ∙ e; reads = λ k h. s .reads k (omega arith); state = s .state };
       placed = λ k h. placed k (omega arith);
       shut = shut;
+      room = room;
       count = refl;
     }
+
+-- the room for as many nodes as the memory has records
+pub room-nodes : (ts : List TypeNode) (w : Work) → Room (length ts) w → Room (length (map view ts)) w
+room-nodes ts w r = subst (λ (n : ℕ). Room n w) (sym (length-map ts view)) r
+
+pub room-records : (ts : List TypeNode) (w : Work) → Room (length (map view ts)) w → Room (length ts) w
+room-records ts w r = subst (λ (n : ℕ). Room n w) (length-map ts view) r

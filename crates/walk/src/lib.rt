@@ -10,7 +10,7 @@ ghost use Rattle.graph.specs.declared.Node.the-variants.{Var};
 ghost use Rattle.walk.specs.Reads.{root, Straight, Flat};
 ghost use Rattle.walk.specs.Table.{bucket};
 ghost use Rattle.walk.specs.Work.{work, key-of, part, Marked, Origin, State, Room, Complete, Closed, Outcome};
-ghost use Rattle.walk.specs.Listing.{Shut, Roots, Rest};
+ghost use Rattle.walk.specs.Listing.{Shut, Roots, Rest, SimpleGraph, Gathering};
 use graph::Node;
 use types::TypeNode;
 
@@ -30,6 +30,7 @@ fn straighten(memory: &mut [TypeNode], used: usize, i: usize)
     requires below { ⌜ ((k : ℕ) → k < i → Straight (graph (now memory) used) k) ⌝ }
     ensures kept { λ _. ⌜ Kept (graph (now (memory .entry)) used) (graph (now (memory .exit)) used) Always Always ⌝ }
     ensures straight { λ _. ⌜ ((k : ℕ) → k < i + 1 → Straight (graph (now (memory .exit)) used) k) ⌝ }
+    ensures simple { λ _. ⌜ (SimpleGraph (graph (now (memory .entry)) used) → SimpleGraph (graph (now (memory .exit)) used)) ⌝ }
 {
     if let Node::Link(next) = graph::look(memory[i]) {
         let there = memory[next as usize];
@@ -45,6 +46,7 @@ fn flatten(memory: &mut [TypeNode], used: usize)
     requires sound { ⌜ Sound (graph (now memory) used) ⌝ }
     ensures kept { λ _. ⌜ Kept (graph (now (memory .entry)) used) (graph (now (memory .exit)) used) Always Always ⌝ }
     ensures flat { λ _. ⌜ Flat (graph (now (memory .exit)) used) ⌝ }
+    ensures simple { λ _. ⌜ (SimpleGraph (graph (now (memory .entry)) used) → SimpleGraph (graph (now (memory .exit)) used)) ⌝ }
 {
     for i in 0..used {
         straighten(memory, used, i);
@@ -223,4 +225,33 @@ fn walk_rest(graph: &[TypeNode], marks: &mut [u32], origins: &mut [u32], heads: 
         walk(graph, i as u16, marks, origins, heads, nexts, count)?;
     }
     Ok(*count)
+}
+
+fn clear(numbers: &mut [u32])
+    ensures { λ _. ⌜ ((k : ℕ) → getD (now (numbers .exit)) k 0 ≡ 0) ⌝ }
+{
+    for n in numbers.iter_mut() {
+        *n = 0;
+    }
+}
+
+// Walks the roots and then all nodes, and gathers the normal list of the roots' types in the last three memories of
+// numbers; says how many records it has.
+fn walk_all(graph: &[TypeNode], roots: &mut [u32], marks: &mut [u32], origins: &mut [u32], heads: &mut [u32], nexts: &mut [u32]) -> Result<u32, Looped>
+    requires inside { ⌜ ((k : ℕ) → k < length (now roots) → getD (now roots) k 0 < length (now graph)) ⌝ }
+    requires flat { ⌜ Flat (map view (now graph)) ⌝ }
+    requires few { ⌜ length (now graph) ≤ 65536 ⌝ }
+    requires first { ⌜ length (now marks) ≡ length (now graph) ⌝ }
+    requires second { ⌜ length (now origins) ≡ length (now graph) ⌝ }
+    requires third { ⌜ length (now heads) ≡ length (now graph) ⌝ }
+    requires fourth { ⌜ length (now nexts) ≡ length (now graph) ⌝ }
+    ensures { λ r. ⌜ Gathering (map view (now (graph .entry))) (now (roots .entry)) (now (roots .exit)) (now (origins .exit)) (now (heads .exit)) (now (nexts .exit)) r ⌝ }
+{
+    clear(marks);
+    clear(heads);
+    let mut count: u32 = 0;
+    let wanted = walk_roots(graph, roots, marks, origins, heads, nexts, &mut count)?;
+    walk_rest(graph, marks, origins, heads, nexts, &mut count)?;
+    gather::columns(graph, marks, origins, heads, nexts, wanted);
+    Ok(wanted)
 }

@@ -8,7 +8,7 @@ use Rattle.std.proofs.shelf.Results.{err-from-errBy}
 use Rattle.graph.specs.Graph.{view}
 use Rattle.walk.specs.Work.{work}
 use Rattle.walk.specs.Listing.{Sofar}
-use Rattle.walk.proofs.Roots.{shut-grown, nothing-above, sofar-more}
+use Rattle.walk.proofs.Roots.{shut-grown, nothing-above, sofar-more, room-nodes}
 use Rattle.walk.proofs.Steps.{room-walked}
 use Rattle.walk.proofs.walk_rest.Needs as need
 
@@ -26,6 +26,8 @@ loop-i-again c =
     (shut-grown _ _ (x .grown) (c .loop-i .inv .1 .0), room-walked ns _ _ _ _ _ (c .loop-i .inv .1 .1) x (k .marks) (k .origins) (k .heads) (k .nexts)))
 
 pub returns : need.returns
-returns c ps s =
-    let e : c .loop-i .i ≡ length (map view (c .args .graph .now)) = omega (arith, length-map (c .args .graph .now) view) in
-    subst (Sofar (map view (c .args .graph .now)) (work (c .loop-i .marks) (c .loop-i .origins) (c .loop-i .heads) (c .loop-i .nexts) (c .loop-i .count)) (λ j. j) ps) e (c .loop-i .inv .0 ps s)
+returns c =
+    let ts = c .args .graph .now in
+    let w = work (c .loop-i .marks) (c .loop-i .origins) (c .loop-i .heads) (c .loop-i .nexts) (c .loop-i .count) in
+    let e : c .loop-i .i ≡ length (map view ts) = omega (arith, length-map ts view) in
+    record { sofar = λ ps s. subst (Sofar (map view ts) w (λ j. j) ps) e (c .loop-i .inv .0 ps s); room = room-nodes ts w (c .loop-i .inv .1 .1) }

@@ -9,7 +9,7 @@ use Rattle.std.proofs.shelf.Results.{err-from-errBy}
 use Rattle.graph.specs.Graph.{view}
 use Rattle.walk.specs.Work.{Walked, Work, work}
 use Rattle.walk.specs.Listing.{Sofar, Placed, Rooted}
-use Rattle.walk.proofs.Roots.{shut-grown, nothing-above, sofar-more, placed-more, walked-at, rooted}
+use Rattle.walk.proofs.Roots.{shut-grown, nothing-above, sofar-more, placed-more, walked-at, rooted, room-nodes}
 use Rattle.walk.proofs.Steps.{room-walked}
 use Rattle.walk.proofs.walk_roots.Needs as need
 
@@ -34,4 +34,4 @@ loop-i-again c =
     λ j l. let ne : j ≢ i = omega arith in getD-set-other (c .loop-i .roots) i j (c .in-Continue-place .place) 0 ne ∙ same j (omega arith)))))
 
 pub returns : need.returns
-returns c = rooted _ _ (c .args .roots .now) _ (c .loop-i .i) (omega arith) (c .loop-i .inv .0) (c .loop-i .inv .1 .0) (c .loop-i .inv .1 .1 .0)
+returns c = rooted _ _ (c .args .roots .now) _ (c .loop-i .i) (omega arith) (c .loop-i .inv .0) (c .loop-i .inv .1 .0) (c .loop-i .inv .1 .1 .0) (room-nodes (c .args .graph .now) _ (c .loop-i .inv .1 .1 .1 .0))
