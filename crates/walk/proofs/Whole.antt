@@ -4,9 +4,9 @@ use mathlib.Core.List.{List, [], _∷_, _++_, map}
 use mathlib.Core.Bool.{false}
 use Prim.Native.Nat.{ℕ, zero, suc, _+_, _-_, _<_, _≤_}
 use native.Mathlib.Omega.{arith}
-use lib.ListN.{length, getD, take}
+use lib.ListN.{length, getD, take, replicate}
 use Rattle.std.specs.shelf.Lists.{All}
-use Rattle.std.proofs.shelf.Lists.{length-map, length-append, getD-map, getD-take, ext-getD}
+use Rattle.std.proofs.shelf.Lists.{length-map, length-append, getD-append-left, getD-map, getD-take, ext-getD}
 use Rattle.std.proofs.shelf.Tests.{both-ways}
 use Rattle.types.specs.declared.TypeNode.{TypeNode}
 use Rattle.types.specs.Types.{Ty, variable, base, branch, apply}
@@ -22,10 +22,10 @@ use Rattle.graph.specs.declared.Node.{Node}
 use Rattle.graph.specs.declared.Node.the-variants.{Var, Base, Branch, Link}
 use Rattle.walk.specs.Reads.{Reads, reads-variable, reads-base, reads-branch, reads-link, MostGeneral, Flat}
 use Rattle.walk.specs.Work.{Work, work, Marked, State, Room, zeros}
-use Rattle.walk.specs.Listing.{Shut, Unsolvable, Sofar, Placed, Rooted, Columns, Narrow, SimpleNode, SimpleGraph, Canonical, Gathered}
+use Rattle.walk.specs.Listing.{Shut, Unsolvable, Sofar, Placed, Rooted, Columns, Narrow, SimpleNode, SimpleGraph, Canonical, Gathered, Listed}
 use Rattle.walk.proofs.Graphs.{spelt-as, reads-one, general, reads-proper}
 use Rattle.walk.proofs.Chains.{table-none}
-use Rattle.walk.proofs.Roots.{sofar-proper}
+use Rattle.walk.proofs.Gathering.{written}
 
 -- ---- the start
 
@@ -137,3 +137,35 @@ canonical-kept ns ms rs qs kept long simple c =
       simple = λ s i h. c .simple (simple s) i (omega arith);
       places = c .places;
     }
+
+-- ---- columns at the beginning of longer memories
+
+pub narrow-append : (n : ℕ) (ks ls rs us bs ds : List ℕ) → n ≤ length ks → n ≤ length ls → n ≤ length rs → Narrow n ks ls rs → Narrow n (ks ++ us) (ls ++ bs) (rs ++ ds)
+narrow-append n ks ls rs us bs ds hk hl hr w =
+    record {
+      kind = λ p h. (let e = w .kind p h in omega (arith, getD-append-left ks us 0 p (omega arith)));
+      left = λ p h. (let e = w .left p h in omega (arith, getD-append-left ls bs 0 p (omega arith)));
+      right = λ p h. (let e = w .right p h in omega (arith, getD-append-left rs ds 0 p (omega arith)));
+    }
+
+-- the rows are written, and what is behind them is cleared
+pub listed : (ns ms : List Node) (rs qs ks ls xs us bs ds : List ℕ) (n : ℕ) (before memory : List TypeNode) → Kept ns ms Always Always → length ms ≡ length ns → (SimpleGraph ns → SimpleGraph ms) → (g : Gathered ms rs qs ks ls xs n) → n ≤ length ks → n ≤ length ls → n ≤ length xs → n ≤ length memory
+    → ((p : ℕ) → p < n → getD before p zero-node ≡ node (getD (ks ++ us) p 0) (getD (ls ++ bs) p 0) (getD (xs ++ ds) p 0)) → ((p : ℕ) → p < n → getD memory p zero-node ≡ getD before p zero-node) → ((p : ℕ) → n ≤ p → getD memory p zero-node ≡ zero-node)
+    → Listed ns rs qs memory n
+unfolding canonical-kept
+listed ns ms rs qs ks ls xs us bs ds n before memory kept long simple g hk hl hx fits rows same behind =
+    record {
+      found = canonical-kept ns ms rs qs kept long simple (g .found);
+      count = g .count;
+      list =
+        written memory (normal (map (g .found .types) rs)) n (sym (g .count)) fits
+        (λ p h.
+          same p h ∙ rows p h
+          ∙ ap (λ (k : ℕ). node k (getD (ls ++ bs) p 0) (getD (xs ++ ds) p 0)) (getD-append-left ks us 0 p (omega arith))
+          ∙ ap₂ (node (getD ks p 0)) (getD-append-left ls bs 0 p (omega arith)) (getD-append-left xs ds 0 p (omega arith))
+          ∙ g .row p h)
+        behind;
+    }
+
+pub cleared : (memory : List TypeNode) → ((p : ℕ) → 0 ≤ p → getD memory p zero-node ≡ zero-node) → memory ≡ replicate (length memory) zero-node
+cleared memory clear = written memory [] 0 refl (omega arith) (λ p h. absurd (omega arith)) clear ∙ ap (λ (n : ℕ). replicate n zero-node) (omega arith)

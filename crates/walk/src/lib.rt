@@ -10,7 +10,7 @@ ghost use Rattle.graph.specs.declared.Node.the-variants.{Var};
 ghost use Rattle.walk.specs.Reads.{root, Straight, Flat};
 ghost use Rattle.walk.specs.Table.{bucket};
 ghost use Rattle.walk.specs.Work.{work, key-of, part, Marked, Origin, State, Room, Complete, Closed, Outcome};
-ghost use Rattle.walk.specs.Listing.{Shut, Roots, Rest, SimpleGraph, Gathering};
+ghost use Rattle.walk.specs.Listing.{Shut, Roots, Rest, SimpleGraph, Gathering, Listing};
 use graph::Node;
 use types::TypeNode;
 
@@ -254,4 +254,32 @@ fn walk_all(graph: &[TypeNode], roots: &mut [u32], marks: &mut [u32], origins: &
     walk_rest(graph, marks, origins, heads, nexts, &mut count)?;
     gather::columns(graph, marks, origins, heads, nexts, wanted);
     Ok(wanted)
+}
+
+// Puts the normal list of the types of the roots in place of the graph that stands in the first `used` records of the
+// memory, with zero nodes behind it, and in place of each root where its type stands in the list; says how many records
+// the list has. The four memories of numbers are room to work in. Where no types solve the graph, the memory is cleared.
+pub fn list_types(memory: &mut [TypeNode], used: usize, roots: &mut [u32], marks: &mut [u32], origins: &mut [u32], heads: &mut [u32], nexts: &mut [u32]) -> Result<usize, Looped>
+    requires fits { ⌜ used ≤ length (now memory) ⌝ }
+    requires few { ⌜ used ≤ 65536 ⌝ }
+    requires sound { ⌜ Sound (graph (now memory) used) ⌝ }
+    requires inside { ⌜ ((k : ℕ) → k < length (now roots) → getD (now roots) k 0 < used) ⌝ }
+    requires first { ⌜ used ≤ length (now marks) ⌝ }
+    requires second { ⌜ used ≤ length (now origins) ⌝ }
+    requires third { ⌜ used ≤ length (now heads) ⌝ }
+    requires fourth { ⌜ used ≤ length (now nexts) ⌝ }
+    ensures { λ r. ⌜ Listing (graph (now (memory .entry)) used) (now (roots .entry)) (now (roots .exit)) (now (memory .exit)) r ⌝ }
+{
+    flatten(memory, used);
+    match walk_all(&memory[..used], roots, &mut marks[..used], &mut origins[..used], &mut heads[..used], &mut nexts[..used]) {
+        Ok(count) => {
+            gather::write_rows(memory, origins, heads, nexts, count as usize);
+            gather::clear_from(memory, count as usize);
+            Ok(count as usize)
+        }
+        Err(Looped::Loop) => {
+            gather::clear_from(memory, 0);
+            Err(Looped::Loop)
+        }
+    }
 }
