@@ -2,12 +2,15 @@
 use mathlib.Core.Path.{_≡_, refl, sym, ap, subst, _∙_}
 use mathlib.Core.List.{List, [], _∷_}
 use mathlib.Core.Logic.{_⊎_, ⊎-elim, _≢_}
-use Prim.Native.Nat.{ℕ, _+_, _<_, _≤_}
+use Prim.Native.Nat.{ℕ, _+_, _*_, _<_, _≤_}
+use native.Mathlib.Nat.{mod-lt}
 use native.Mathlib.Omega.{arith}
 use lib.ListN.{length, getD, set}
 use Rattle.std.proofs.shelf.Lists.{length-set, getD-set-same, getD-set-other}
 use Rattle.std.proofs.shelf.Tests.{cases-eq}
-use Rattle.walk.specs.Table.{Latest, Table}
+use Rattle.types.specs.declared.TypeNode.{TypeNode}
+use Rattle.types.specs.Lists.{zero-node}
+use Rattle.walk.specs.Table.{Latest, Table, bucket}
 
 -- only the numbers of the places below b count
 latest-same : (f g : ℕ → ℕ) (b h x : ℕ) → ((p : ℕ) → p < b → f p ≡ g p) → Latest f b h x → Latest g b h x
@@ -61,3 +64,14 @@ table-push f n h hs xs t room e lt =
         (λ (ne : p ≢ n). subst (Latest f p (f p)) (sym (getD-set-other xs n p (getD hs h 0) 0 ne)) (t .goes p (omega arith)))
         (cases-eq p n);
     }
+
+-- the place n of a list comes in, by its record
+pub table-entered : (l : List TypeNode) (m n : ℕ) (hs xs hs′ xs′ : List ℕ) → m ≡ length hs → 0 < m → n < length xs → Table (λ p. bucket m (getD l p zero-node)) n hs xs → hs′ ≡ set hs (bucket (length hs) (getD l n zero-node)) (n + 1) → xs′ ≡ set xs n (getD hs (bucket (length hs) (getD l n zero-node)) 0) → Table (λ p. bucket m (getD l p zero-node)) (n + 1) hs′ xs′
+table-entered l m n hs xs hs′ xs′ e some room t eh ex =
+    let x = getD l n zero-node in
+    let q : bucket (length hs) x ≡ bucket m x = ap (λ (k : ℕ). bucket k x) (sym e) in
+    let lt : bucket m x < m = mod-lt (x .kind + x .left * 31 + x .right * 1021) some in
+    let number : ℕ → ℕ = λ p. bucket m (getD l p zero-node) in
+    subst (λ (as′ : List ℕ). Table number (n + 1) as′ xs′) (sym (eh ∙ ap (λ (k : ℕ). set hs k (n + 1)) q))
+    (subst (λ (bs : List ℕ). Table number (n + 1) (set hs (bucket m x) (n + 1)) bs) (sym (ex ∙ ap (λ (k : ℕ). set xs n (getD hs k 0)) q))
+    (table-push number n (bucket m x) hs xs t room refl (omega arith)))

@@ -2,3 +2,4 @@ pub mod Reads
 pub mod Table
 pub mod Work
 pub mod Listing
+pub mod Copies

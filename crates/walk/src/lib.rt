@@ -14,6 +14,7 @@ ghost use Rattle.walk.specs.Listing.{Shut, Roots, Rest, SimpleGraph, Gathering
 use graph::Node;
 use types::TypeNode;
 
+mod copying;
 mod gather;
 
 // No types solve the graph: a class would be a part of itself.
@@ -51,6 +52,14 @@ fn flatten(memory: &mut [TypeNode], used: usize)
     for i in 0..used {
         straighten(memory, used, i);
     }
+}
+
+// Why a list was not brought to its normal form: it means no type, or a memory is shorter than it.
+#[derive(Clone, Copy, Debug, PartialEq)]
+pub enum Refused {
+    Unlawful,
+    ShortMemory,
+    ShortNumbers,
 }
 
 // The node that stands for the class of `at`.
@@ -122,6 +131,19 @@ fn find(graph: &[TypeNode], marks: &[u32], origins: &[u32], heads: &[u32], nexts
     None
 }
 
+// Enters the next place into the table, by its record or key `x`.
+fn enter(heads: &mut [u32], nexts: &mut [u32], place: u32, x: TypeNode)
+    requires some { ⌜ 0 < length (now heads) ⌝ }
+    requires within { ⌜ place < length (now nexts) ⌝ }
+    requires few { ⌜ place < 65536 ⌝ }
+    ensures heads { λ _. ⌜ now (heads .exit) ≡ set (now (heads .entry)) (bucket (length (now (heads .entry))) x) (place + 1) ⌝ }
+    ensures nexts { λ _. ⌜ now (nexts .exit) ≡ set (now (nexts .entry)) place (getD (now (heads .entry)) (bucket (length (now (heads .entry))) x) 0) ⌝ }
+{
+    let h = bucket_of(x, heads.len());
+    nexts[place as usize] = heads[h];
+    heads[h] = place + 1;
+}
+
 // Puts a part with the key `x` behind the others, with the node `i` as its origin.
 fn append(marks: &mut [u32], origins: &mut [u32], heads: &mut [u32], nexts: &mut [u32], count: &mut u32, i: u16, x: TypeNode) -> u16
     requires inside { ⌜ i < length (now marks) ⌝ }
@@ -137,11 +159,9 @@ fn append(marks: &mut [u32], origins: &mut [u32], heads: &mut [u32], nexts: &mut
     ensures nexts { λ _. ⌜ now (nexts .exit) ≡ set (now (nexts .entry)) (now (count .entry)) (getD (now (heads .entry)) (bucket (length (now (heads .entry))) x) 0) ⌝ }
 {
     let place = *count;
-    let h = bucket_of(x, heads.len());
     marks[i as usize] = place + 2;
     origins[place as usize] = i as u32;
-    nexts[place as usize] = heads[h];
-    heads[h] = place + 1;
+    enter(heads, nexts, place, x);
     *count = place + 1;
     place as u16
 }
