@@ -8,3 +8,4 @@ pub mod Flattening
 pub mod Roots
 pub mod Gathering
 pub mod Whole
+pub mod Copied
