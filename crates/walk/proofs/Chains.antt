@@ -42,12 +42,12 @@ table-push f n h hs xs t room e lt =
     let xs′ = set xs n (getD hs h 0) in
     record {
       starts = λ j l.
-        ⊎-elim
-        (λ (q : j ≡ h).
+          ⊎-elim
+          (λ (q : j ≡ h).
           subst (λ (i : ℕ). Latest f (n + 1) i (getD hs′ i 0)) (sym q)
           (subst (Latest f (n + 1) h) (sym (getD-set-same hs h (n + 1) 0 lt))
           (record { low = omega arith; here = λ p d. (let g : p ≡ n = omega arith in ap f g ∙ e); between = λ k g i d. omega arith })))
-        (λ (ne : j ≢ h).
+          (λ (ne : j ≢ h).
           subst (Latest f (n + 1) j) (sym (getD-set-other hs h j (n + 1) 0 ne))
           (let o = t .starts j (omega (arith, length-set hs h (n + 1))) in
           record {
@@ -55,14 +55,14 @@ table-push f n h hs xs t room e lt =
             here = o .here;
             between = λ k g i d. ⊎-elim (λ (q : k ≡ n). ne (sym d ∙ ap f q ∙ e)) (λ (m : k ≢ n). o .between k g (omega arith) d) (cases-eq k n);
           }))
-        (cases-eq j h);
+          (cases-eq j h);
       goes = λ p l.
-        ⊎-elim
-        (λ (q : p ≡ n).
+          ⊎-elim
+          (λ (q : p ≡ n).
           subst (λ (i : ℕ). Latest f i (f i) (getD xs′ i 0)) (sym q)
           (subst (λ (i : ℕ). Latest f n i (getD xs′ n 0)) (sym e) (subst (Latest f n h) (sym (getD-set-same xs n (getD hs h 0) 0 room)) (t .starts h lt))))
-        (λ (ne : p ≢ n). subst (Latest f p (f p)) (sym (getD-set-other xs n p (getD hs h 0) 0 ne)) (t .goes p (omega arith)))
-        (cases-eq p n);
+          (λ (ne : p ≢ n). subst (Latest f p (f p)) (sym (getD-set-other xs n p (getD hs h 0) 0 ne)) (t .goes p (omega arith)))
+          (cases-eq p n);
     }
 
 -- the place n of a list comes in, by its record

@@ -41,17 +41,17 @@ module _ (ns : List Node) (ms : List ℕ) (i : ℕ) (h : i < length ms) (opened 
       record {
         built = m .built;
         read = λ k x in-graph d.
-          ⊎-elim
-          (λ (q : k ≡ i).
+            ⊎-elim
+            (λ (q : k ≡ i).
             let y : p ≡ x = omega (arith, sym (ap (λ (j : ℕ). getD (set ms i (p + 2)) j 0) q ∙ at) ∙ d) in
             (omega arith, subst (λ (j : ℕ). Reads ns j (part ps x)) (sym q) (subst (λ (j : ℕ). Reads ns i (part ps j)) y reads)))
-          (λ (ne : k ≢ i). m .read k x in-graph (sym (getD-set-other ms i k (p + 2) 0 ne) ∙ d))
-          (cases-eq k i);
+            (λ (ne : k ≢ i). m .read k x in-graph (sym (getD-set-other ms i k (p + 2) 0 ne) ∙ d))
+            (cases-eq k i);
         complete = λ k x in-graph d.
-          ⊎-elim
-          (λ (q : k ≡ i). subst (Complete ns (set ms i (p + 2))) (sym q) (complete-still (p + 2) i (omega arith) complete))
-          (λ (ne : k ≢ i). complete-still (p + 2) k (omega arith) (m .complete k x in-graph (sym (getD-set-other ms i k (p + 2) 0 ne) ∙ d)))
-          (cases-eq k i);
+            ⊎-elim
+            (λ (q : k ≡ i). subst (Complete ns (set ms i (p + 2))) (sym q) (complete-still (p + 2) i (omega arith) complete))
+            (λ (ne : k ≢ i). complete-still (p + 2) k (omega arith) (m .complete k x in-graph (sym (getD-set-other ms i k (p + 2) 0 ne) ∙ d)))
+            (cases-eq k i);
       }
 
   pub origin-still : (x k p : ℕ) → Origin ns ms k p → Origin ns (set ms i x) k p
@@ -75,15 +75,16 @@ module _ (ns : List Node) (w : Work) (i : ℕ) (key : TypeNode) (h : i < length 
         let m = has-at ps p (variable 0) l in
         let e : part ps p ≡ t = key-one ps (part ps p) t (ready (s .marked .built) (part ps p) m) r (d ∙ sym k) in
         let m′ : has ps t ≡ true = subst (λ (u : Ty). has ps u ≡ true) e m in
-        let a = sym (add-old ps t m′) in
-        (subst (State ns (work (set (w .marks) i (p + 2)) (w .origins) (w .heads) (w .nexts) (w .count))) a
-          (record {
-            marked = marked-set ns (w .marks) i h opened ps p l (subst (Reads ns i) (sym e) reads) complete (s .marked);
-            long = s .long;
-            made = λ q g. origin-still ns (w .marks) i h opened (p + 2) (getD (w .origins) q 0) q (s .made q g);
-            table = s .table;
-          }),
-        sym (place-own (s .marked .built) p (variable 0) l) ∙ ap (place ps) e ∙ ap (λ (qs : List Ty). place qs t) a)
+        let a = sym (add-old ps t m′) in (
+          subst (State ns (work (set (w .marks) i (p + 2)) (w .origins) (w .heads) (w .nexts) (w .count))) a
+              (record {
+                marked = marked-set ns (w .marks) i h opened ps p l (subst (Reads ns i) (sym e) reads) complete (s .marked);
+                long = s .long;
+                made = λ q g. origin-still ns (w .marks) i h opened (p + 2) (getD (w .origins) q 0) q (s .made q g);
+                table = s .table;
+              }),
+          sym (place-own (s .marked .built) p (variable 0) l) ∙ ap (place ps) e ∙ ap (λ (qs : List Ty). place qs t) a,
+        )
 
     module _ (none : (q : ℕ) → q < w .count → key-of ps (part ps q) ≡ key → ⊥) (inside : i < length ns) (stands : alive (getD ns i Var) ≡ 1) (some : 0 < length (w .heads)) (ho : w .count < length (w .origins)) (hn : w .count < length (w .nexts)) where
       fresh : has ps t ≡ false
@@ -106,30 +107,31 @@ module _ (ns : List Node) (w : Work) (i : ℕ) (key : TypeNode) (h : i < length 
           let a = sym (add-new ps t fresh) in
           let lt : bucket m key < m = mod-lt (key .kind + key .left * 31 + key .right * 1021) some in
           let old : (p : ℕ) → p < n → bucket m (key-of ps (part ps p)) ≡ bucket m (key-of qs (part qs p)) =
-            λ p g.
-              (let l : p < length ps = omega (arith, s .long) in
-              let e = getD-append-left ps (t ∷ []) (variable 0) p l in
-              ap (bucket m) (sym (ap (key-of qs) e ∙ key-left ps (t ∷ []) (part ps p) (ready (s .marked .built) (part ps p) (has-at ps p (variable 0) l))))) in
+          λ p g.
+          (let l : p < length ps = omega (arith, s .long) in
+          let e = getD-append-left ps (t ∷ []) (variable 0) p l in
+          ap (bucket m) (sym (ap (key-of qs) e ∙ key-left ps (t ∷ []) (part ps p) (ready (s .marked .built) (part ps p) (has-at ps p (variable 0) l))))) in
           let own : bucket m (key-of qs (part qs n)) ≡ bucket m key = ap (bucket m) (ap (key-of qs) at ∙ key-left ps (t ∷ []) t r ∙ k) in
           let number : ℕ → ℕ = λ p. bucket m (key-of qs (part qs p)) in
           let tb : Table number (n + 1) (appended .heads) (appended .nexts) =
-            table-push number n (bucket m key) (w .heads) (w .nexts) (table-same (λ p. bucket m (key-of ps (part ps p))) number n (w .heads) (w .nexts) old (s .table)) hn own lt in
-          (subst (State ns appended) a
-            (record {
-              marked = marked-set ns (w .marks) i h opened qs n (omega (arith, length-push ps t, s .long)) (subst (Reads ns i) (sym at) reads) complete (marked-push ns (w .marks) ps t b (s .marked));
-              long = length-push ps t ∙ ap (λ (x : ℕ). x + 1) (s .long);
-              made = λ q g.
-                ⊎-elim
-                (λ (e : q ≡ n).
-                  subst (λ (j : ℕ). Origin ns (appended .marks) (getD (appended .origins) j 0) j) (sym e)
-                  (subst (λ (j : ℕ). Origin ns (appended .marks) j n) (sym (getD-set-same (w .origins) n i 0 ho)) (record { inside = inside; stands = stands; mark = getD-set-same (w .marks) i (n + 2) 0 h })))
-                (λ (ne : q ≢ n).
-                  subst (λ (j : ℕ). Origin ns (appended .marks) j q) (sym (getD-set-other (w .origins) n q i 0 ne))
-                  (origin-still ns (w .marks) i h opened (n + 2) (getD (w .origins) q 0) q (s .made q (omega arith))))
-                (cases-eq q n);
-              table = subst (λ (z : ℕ). Table (λ p. bucket z (key-of qs (part qs p))) (n + 1) (appended .heads) (appended .nexts)) (sym (length-set (w .heads) (bucket m key) (n + 1))) tb;
-            }),
-          sym (s .long) ∙ sym (place-new ps t fresh) ∙ ap (λ (us : List Ty). place us t) a)
+          table-push number n (bucket m key) (w .heads) (w .nexts) (table-same (λ p. bucket m (key-of ps (part ps p))) number n (w .heads) (w .nexts) old (s .table)) hn own lt in (
+            subst (State ns appended) a
+                (record {
+                  marked = marked-set ns (w .marks) i h opened qs n (omega (arith, length-push ps t, s .long)) (subst (Reads ns i) (sym at) reads) complete (marked-push ns (w .marks) ps t b (s .marked));
+                  long = length-push ps t ∙ ap (λ (x : ℕ). x + 1) (s .long);
+                  made = λ q g.
+                      ⊎-elim
+                      (λ (e : q ≡ n).
+                      subst (λ (j : ℕ). Origin ns (appended .marks) (getD (appended .origins) j 0) j) (sym e)
+                      (subst (λ (j : ℕ). Origin ns (appended .marks) j n) (sym (getD-set-same (w .origins) n i 0 ho)) (record { inside = inside; stands = stands; mark = getD-set-same (w .marks) i (n + 2) 0 h })))
+                      (λ (ne : q ≢ n).
+                      subst (λ (j : ℕ). Origin ns (appended .marks) j q) (sym (getD-set-other (w .origins) n q i 0 ne))
+                      (origin-still ns (w .marks) i h opened (n + 2) (getD (w .origins) q 0) q (s .made q (omega arith))))
+                      (cases-eq q n);
+                  table = subst (λ (z : ℕ). Table (λ p. bucket z (key-of qs (part qs p))) (n + 1) (appended .heads) (appended .nexts)) (sym (length-set (w .heads) (bucket m key) (n + 1))) tb;
+                }),
+            sym (s .long) ∙ sym (place-new ps t fresh) ∙ ap (λ (us : List Ty). place us t) a,
+          )
 
 work-same : (a a′ b b′ d d′ e e′ : List ℕ) (n n′ : ℕ) → a ≡ a′ → b ≡ b′ → d ≡ d′ → e ≡ e′ → n ≡ n′ → work a b d e n ≡ work a′ b′ d′ e′ n′
 work-same a a′ b b′ d d′ e e′ n n′ p q r s t = cc
@@ -152,6 +154,6 @@ module _ (ns : List Node) (w : Work) (i : ℕ) (key : TypeNode) (h : i < length 
         marks = em ∙ ap (λ (x : ℕ). set (w .marks) i (x + 2)) (sym ep);
         count = omega arith;
         exact = λ ps t s r k reads.
-          (let f = closed-new ns w i key h opened complete ps t s r k reads (none ps s) inside stands some ho hn in
-          (subst (λ (z : Work). State ns z (add ps t)) (sym (work-same ms _ os _ hs _ xs _ n _ em eo eh ex en)) (f .0), ep ∙ f .1));
+            (let f = closed-new ns w i key h opened complete ps t s r k reads (none ps s) inside stands some ho hn in
+            (subst (λ (z : Work). State ns z (add ps t)) (sym (work-same ms _ os _ hs _ xs _ n _ em eo eh ex en)) (f .0), ep ∙ f .1));
       }

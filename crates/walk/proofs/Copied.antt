@@ -1,25 +1,27 @@
 -- A lawful list and its copy in a graph have the same types, up to the names of variables.
 use mathlib.Core.Path.{_≡_, refl, sym, ap, ap₂, subst, _∙_}
-use mathlib.Core.List.{List, [], _∷_}
+use mathlib.Core.List.{List, [], _∷_, _++_}
 use mathlib.Core.Logic.{_⊎_, ⊎-elim, _≢_}
 use mathlib.Core.Bool.{Bool, true, false, _&&_, cond}
-use Prim.Native.Nat.{ℕ, zero, suc, _+_, _<_, _≤_}
+use Prim.Native.Nat.{ℕ, zero, suc, _+_, _-_, _<_, _≤_}
 use native.Mathlib.Omega.{arith}
 use lib.Dec.{eqb}
-use lib.ListN.{length, getD}
+use lib.ListN.{length, getD, replicate}
 use Rattle.std.proofs.shelf.Tests.{both-ways, cases-eq, cases-lt, cond-true, cond-false, eq-eqb, ne-eqb, eqb-true, and-parts, and-from}
 use Rattle.types.specs.declared.TypeNode.{TypeNode}
 use Rattle.types.specs.Types.{Ty, variable, base, branch, apply, Instance}
-use Rattle.types.specs.Lists.{zero-node, Lawful, type-at}
-use Rattle.graph.specs.Graph.{view, Says, Solves, Inside, Sound}
+use Rattle.types.specs.Lists.{zero-node, Lawful, type-at, meaning}
+use Rattle.graph.specs.Graph.{view, graph, Says, Solves, Inside, Sound}
 use Rattle.graph.proofs.Writes.{says-at}
+use Rattle.graph.proofs.Memory.{graph-at, graph-length}
 use Rattle.graph.specs.declared.Node.{Node}
 use Rattle.graph.specs.declared.Node.the-variants.{Var, Base, Branch, Link}
 use Rattle.normal.specs.Normal.{normal-of}
 use Rattle.normal.proofs.Reading.{lower-lawful, at-variable, at-base, at-branch}
 use Rattle.normal.proofs.Rename.{mutual-keeps-list}
 use Rattle.walk.specs.Reads.{MostGeneral}
-use Rattle.walk.specs.Copies.{Copy}
+use Rattle.walk.specs.Listing.{Unsolvable, Listed}
+use Rattle.walk.specs.Copies.{Copy, Normalized}
 use Rattle.walk.proofs.Finding.{same-node}
 
 -- ---- records as graph nodes
@@ -83,11 +85,11 @@ module _ (l : List TypeNode) (law : Lawful l) (ns : List Node) (long : length ns
       let e = law .each i hi in
       ⊎-elim
       (λ (c : (getD ns i Var ≡ view x) × ((q : ℕ) → q < i → getD l q zero-node ≡ x → ⊥)).
-        subst (Inside (length ns) i) (sym (c .0))
-        (by-kind (Inside (length ns) i (view x)) i hi
-        (λ a. subst (Inside (length ns) i) (sym (view-variable x a)) tt)
-        (λ a. subst (Inside (length ns) i) (sym (view-base x a)) tt)
-        (λ a. let w = e .lower a in subst (Inside (length ns) i) (sym (view-branch x a (e .kinds))) (omega (arith, w .0), omega (arith, w .1)))))
+      subst (Inside (length ns) i) (sym (c .0))
+      (by-kind (Inside (length ns) i (view x)) i hi
+      (λ a. subst (Inside (length ns) i) (sym (view-variable x a)) tt)
+      (λ a. subst (Inside (length ns) i) (sym (view-base x a)) tt)
+      (λ a. let w = e .lower a in subst (Inside (length ns) i) (sym (view-branch x a (e .kinds))) (omega (arith, w .0), omega (arith, w .1)))))
       (λ (c : (q : ℕ) × (q < i) × (getD l q zero-node ≡ x) × (getD ns i Var ≡ Link q)). subst (Inside (length ns) i) (sym (c .3)) (c .1))
       (copy i hi)
 
@@ -100,13 +102,13 @@ module _ (l : List TypeNode) (law : Lawful l) (ns : List Node) (long : length ns
       let v = type-at l in
       ⊎-elim
       (λ (c : (getD ns i Var ≡ view x) × ((q : ℕ) → q < i → getD l q zero-node ≡ x → ⊥)).
-        subst (Says v i) (sym (c .0))
-        (by-kind (Says v i (view x)) i hi
-        (λ a. subst (Says v i) (sym (view-variable x a)) tt)
-        (λ a. subst (Says v i) (sym (view-base x a)) (at-base l low i a))
-        (λ a. subst (Says v i) (sym (view-branch x a (law .each i hi .kinds))) (at-branch l low i hi a))))
+      subst (Says v i) (sym (c .0))
+      (by-kind (Says v i (view x)) i hi
+      (λ a. subst (Says v i) (sym (view-variable x a)) tt)
+      (λ a. subst (Says v i) (sym (view-base x a)) (at-base l low i a))
+      (λ a. subst (Says v i) (sym (view-branch x a (law .each i hi .kinds))) (at-branch l low i hi a))))
       (λ (c : (q : ℕ) × (q < i) × (getD l q zero-node ≡ x) × (getD ns i Var ≡ Link q)).
-        subst (Says v i) (sym (c .3)) (sym (type-same i (c .0) hi (let lt = c .1 in omega arith) (c .2))))
+      subst (Says v i) (sym (c .3)) (sym (type-same i (c .0) hi (let lt = c .1 in omega arith) (c .2))))
       (copy i hi)
 
   module _ (τ : ℕ → Ty) (s : Solves τ ns) where
@@ -123,15 +125,15 @@ module _ (l : List TypeNode) (law : Lawful l) (ns : List Node) (long : length ns
         let y = getD l i zero-node in
         ⊎-elim
         (λ (c : (getD ns p Var ≡ view x) × ((q : ℕ) → q < p → getD l q zero-node ≡ x → ⊥)).
-          ⊎-elim
-          (λ (e : p ≡ i). ap τ e)
-          (λ (ne : p ≢ i).
-            absurd (c .1 i (omega (arith, f .0)) (same-node y x (f .1 ∙ sym k) (f .2) (law .each i (omega (arith, f .0)) .leaf (omega (arith, f .1)) ∙ sym (law .each p h .leaf (omega arith))))))
-          (cases-eq p i))
+        ⊎-elim
+        (λ (e : p ≡ i). ap τ e)
+        (λ (ne : p ≢ i).
+        absurd (c .1 i (omega (arith, f .0)) (same-node y x (f .1 ∙ sym k) (f .2) (law .each i (omega (arith, f .0)) .leaf (omega (arith, f .1)) ∙ sym (law .each p h .leaf (omega arith))))))
+        (cases-eq p i))
         (λ (c : (q : ℕ) × (q < p) × (getD l q zero-node ≡ x) × (getD ns p Var ≡ Link q)).
-          let q = c .0 in
-          let lq = c .1 in
-          says-at τ ns p (Link q) s (omega arith) (c .3) ∙ variable-type b q (omega arith) (omega arith) (ap (λ (n : TypeNode). n .kind) (c .2) ∙ k) ∙ ap (λ (n : TypeNode). names (n .left)) (c .2))
+        let q = c .0 in
+        let lq = c .1 in
+        says-at τ ns p (Link q) s (omega arith) (c .3) ∙ variable-type b q (omega arith) (omega arith) (ap (λ (n : TypeNode). n .kind) (c .2) ∙ k) ∙ ap (λ (n : TypeNode). names (n .left)) (c .2))
         (copy p h)
 
     -- each solution is an instance of the list's types
@@ -143,18 +145,18 @@ module _ (l : List TypeNode) (law : Lawful l) (ns : List Node) (long : length ns
         let hn : p < length ns = omega arith in
         ⊎-elim
         (λ (c : (getD ns p Var ≡ view x) × ((q : ℕ) → q < p → getD l q zero-node ≡ x → ⊥)).
-          by-kind (apply names (type-at l p) ≡ τ p) p h
-          (λ a. ap (apply names) (at-variable l low p a) ∙ sym (variable-type (suc p) p (omega arith) h a))
-          (λ a. ap (apply names) (at-base l low p a) ∙ sym (says-at τ ns p (Base (x .left)) s hn (c .0 ∙ view-base x a)))
-          (λ a.
-            let w = low p h a in
-            ap (apply names) (at-branch l low p h a)
-            ∙ ap₂ (branch (x .kind)) (copy-instance b (x .left) (omega (arith, w .0)) (omega (arith, w .0))) (copy-instance b (x .right) (omega (arith, w .1)) (omega (arith, w .1)))
-            ∙ sym (says-at τ ns p (Branch (x .kind) (x .left) (x .right)) s hn (c .0 ∙ view-branch x a (law .each p h .kinds)))))
+        by-kind (apply names (type-at l p) ≡ τ p) p h
+        (λ a. ap (apply names) (at-variable l low p a) ∙ sym (variable-type (suc p) p (omega arith) h a))
+        (λ a. ap (apply names) (at-base l low p a) ∙ sym (says-at τ ns p (Base (x .left)) s hn (c .0 ∙ view-base x a)))
+        (λ a.
+        let w = low p h a in
+        ap (apply names) (at-branch l low p h a)
+        ∙ ap₂ (branch (x .kind)) (copy-instance b (x .left) (omega (arith, w .0)) (omega (arith, w .0))) (copy-instance b (x .right) (omega (arith, w .1)) (omega (arith, w .1)))
+        ∙ sym (says-at τ ns p (Branch (x .kind) (x .left) (x .right)) s hn (c .0 ∙ view-branch x a (law .each p h .kinds)))))
         (λ (c : (q : ℕ) × (q < p) × (getD l q zero-node ≡ x) × (getD ns p Var ≡ Link q)).
-          let q = c .0 in
-          let lq = c .1 in
-          ap (apply names) (sym (type-same p q h (omega arith) (c .2))) ∙ copy-instance b q (omega arith) (omega arith) ∙ sym (says-at τ ns p (Link q) s hn (c .3)))
+        let q = c .0 in
+        let lq = c .1 in
+        ap (apply names) (sym (type-same p q h (omega arith) (c .2))) ∙ copy-instance b q (omega arith) (omega arith) ∙ sym (says-at τ ns p (Link q) s hn (c .3)))
         (copy p h)
 
   pub copy-normal : (τ : ℕ → Ty) → MostGeneral τ ns → (p : ℕ) → p < length l → normal-of (τ p) ≡ normal-of (type-at l p)
@@ -162,3 +164,31 @@ module _ (l : List TypeNode) (law : Lawful l) (ns : List Node) (long : length ns
       let back : Instance (type-at l p) (τ p) = (names τ (g .solves), copy-instance τ (g .solves) (suc p) p (omega arith) h) in
       let there : Instance (τ p) (type-at l p) = (type-at l, g .general (type-at l) copy-solved p (omega arith)) in
       mutual-keeps-list (τ p) (type-at l p) there back
+
+-- ---- the copy in a memory
+
+module _ (l m : List TypeNode) (law : Lawful l) (fits : length l ≤ length m) (copy : (p : ℕ) → p < length l → Copy l p (view (getD m p zero-node))) where
+  copy-graph : (p : ℕ) → p < length l → Copy l p (getD (graph m (length l)) p Var)
+  copy-graph p h = subst (Copy l p) (sym (graph-at m (length l) p h)) (copy p h)
+
+  pub graph-sound : Sound (graph m (length l))
+  graph-sound = copy-sound l law (graph m (length l)) (graph-length m (length l) fits) copy-graph
+
+  pub graph-solved : Unsolvable (graph m (length l)) → ⊥
+  graph-solved none = none (type-at l) (copy-solved l law (graph m (length l)) (graph-length m (length l) fits) copy-graph)
+
+  pub normalized : (qs : List ℕ) (memory : List TypeNode) (n : ℕ) → Listed (graph m (length l)) ((length l - 1) ∷ []) qs memory n → Normalized l memory n
+  normalized qs memory n listed =
+      let τ = listed .found .types in
+      let e : normal-of (τ (length l - 1)) ≡ normal-of (meaning l) =
+      copy-normal l law (graph m (length l)) (graph-length m (length l) fits) copy-graph τ (listed .found .general) (length l - 1) (omega (arith, law .some)) in
+      record {
+        lawful = law;
+        count = listed .count ∙ ap length e;
+        list = listed .list ∙ ap (λ (r : List TypeNode). r ++ replicate (length memory - n) zero-node) e;
+      }
+
+-- the one root is the last place
+pub only-root : (n : ℕ) → 0 < n → (k : ℕ) → k < 1 → getD ((n - 1) ∷ []) k 0 < n
+only-root n h zero l = omega arith
+only-root n h (suc k) l = absurd (omega arith)

@@ -34,14 +34,14 @@ module _ (key : ℕ → TypeNode) (n : ℕ) (heads nexts : List ℕ) (x : TypeNo
         low = omega (arith, l .low, k .low);
         here = λ q d. l .here q d ∙ e;
         passed = λ j g i d.
-          ⊎-elim
-          (λ (lt : j < p). l .between j g lt (ap (bucket (length heads)) d ∙ sym e))
-          (λ (ge : p ≤ j).
+            ⊎-elim
+            (λ (lt : j < p). l .between j g lt (ap (bucket (length heads)) d ∙ sym e))
+            (λ (ge : p ≤ j).
             ⊎-elim
             (λ (q : j ≡ p). not (subst (λ (i : ℕ). key i ≡ x) q d))
             (λ (ne : j ≢ p). k .passed j (omega arith) i d)
             (cases-eq j p))
-          (cases-lt j p);
+            (cases-lt j p);
       }
 
   pub seek-falls : (at : ℕ) → 0 < at → Seek key (length heads) n x at → getD nexts (at - 1) 0 < at

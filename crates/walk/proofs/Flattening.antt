@@ -24,7 +24,7 @@ pub kind-view : (x : TypeNode) → Kind (view x)
 kind-view x =
     cond-both (eqb (x .kind) 0) Var _ Kind (λ e. tt)
     (λ a. cond-both (eqb (x .kind) 1) (Base (x .left)) _ Kind (λ e. tt)
-      (λ b. cond-both (eqb (x .kind) 255) (Link (x .left)) (Branch (x .kind) (x .left) (x .right)) Kind (λ e. tt) (λ d. omega (arith, eqb-false (x .kind) 0 a, eqb-false (x .kind) 1 b))))
+    (λ b. cond-both (eqb (x .kind) 255) (Link (x .left)) (Branch (x .kind) (x .left) (x .right)) Kind (λ e. tt) (λ d. omega (arith, eqb-false (x .kind) 0 a, eqb-false (x .kind) 1 b))))
 
 pub not-link-alive : (x : Node) → ((j : ℕ) → x ≡ Link j → ⊥) → alive x ≡ 1
 not-link-alive Var n = refl
@@ -95,8 +95,8 @@ module _ (ts : List TypeNode) (n i : ℕ) (fits : n ≤ length ts) (within : i <
           ⊎-elim
           (λ (q : k ≡ i). subst (Straight ms) (sym q) (straight-link ms i far (ap (λ (l : List Node). getD l i Var) same ∙ getD-set-same ns i (Link far) Var hi) (still far ∙ far-alive)))
           (λ (ne : k ≢ i).
-            let e : getD ns k Var ≡ getD ms k Var = sym (ap (λ (l : List Node). getD l k Var) same ∙ getD-set-other ns i k (Link far) Var ne) in
-            subst (λ (x : Node). alive (getD ms (target k x) Var) ≡ 1) e (still (root ns k) ∙ below k (omega arith)))
+          let e : getD ns k Var ≡ getD ms k Var = sym (ap (λ (l : List Node). getD l k Var) same ∙ getD-set-other ns i k (Link far) Var ne) in
+          subst (λ (x : Node). alive (getD ms (target k x) Var) ≡ 1) e (still (root ns k) ∙ below k (omega arith)))
           (cases-eq k i)
 
 pub looked-alive : (x y : Node) → y ≡ x → ((j : ℕ) → y ≡ Link j → ⊥) → alive x ≡ 1

@@ -79,13 +79,13 @@ module _ (ks ls rs : List ℕ) (p : ℕ) (hk : p < length ks) (hl : p < length l
   columns-more ps e c =
       record {
         row = λ q lt.
-          ⊎-elim
-          (λ (d : q ≡ p).
+            ⊎-elim
+            (λ (d : q ≡ p).
             subst (λ (j : ℕ). node (getD (set ks p k) j 0) (getD (set ls p l) j 0) (getD (set rs p r) j 0) ≡ getD (records ps) j zero-node) (sym d)
             (ap (λ (x : ℕ). node x (getD (set ls p l) p 0) (getD (set rs p r) p 0)) (getD-set-same ks p k 0 hk) ∙ ap₂ (node k) (getD-set-same ls p l 0 hl) (getD-set-same rs p r 0 hr) ∙ e))
-          (λ (ne : q ≢ p).
+            (λ (ne : q ≢ p).
             ap (λ (x : ℕ). node x (getD (set ls p l) q 0) (getD (set rs p r) q 0)) (getD-set-other ks p q k 0 ne) ∙ ap₂ (node (getD ks q 0)) (getD-set-other ls p q l 0 ne) (getD-set-other rs p q r 0 ne) ∙ c .row q (omega arith))
-          (cases-eq q p);
+            (cases-eq q p);
       }
 
   pub narrow-more : k < 256 → l < 65536 → r < 65536 → Narrow p ks ls rs → Narrow (p + 1) (set ks p k) (set ls p l) (set rs p r)
@@ -103,10 +103,10 @@ written memory list n e h below behind =
     let long : length memory ≡ length (list ++ replicate (length memory - n) zero-node) = sym (length-append list (replicate (length memory - n) zero-node) ∙ ap₂ (λ (a b : ℕ). a + b) e (length-replicate (length memory - n) zero-node) ∙ (omega arith)) in
     ext-getD zero-node memory (list ++ replicate (length memory - n) zero-node) long
     (λ i l.
-      ⊎-elim
-      (λ (lt : i < n). below i lt ∙ sym (getD-append-left list (replicate (length memory - n) zero-node) zero-node i (omega arith)))
-      (λ (ge : n ≤ i). behind i ge ∙ sym (getD-append-right list (replicate (length memory - n) zero-node) n i zero-node e ge ∙ getD-replicate (length memory - n) (i - n) zero-node zero-node (omega arith)))
-      (cases-lt i n))
+    ⊎-elim
+    (λ (lt : i < n). below i lt ∙ sym (getD-append-left list (replicate (length memory - n) zero-node) zero-node i (omega arith)))
+    (λ (ge : n ≤ i). behind i ge ∙ sym (getD-append-right list (replicate (length memory - n) zero-node) n i zero-node e ge ∙ getD-replicate (length memory - n) (i - n) zero-node zero-node (omega arith)))
+    (cases-lt i n))
 
 -- the row at p, as it is worked out
 pub row-worked : (ps : List Ty) → Built ps → (p : ℕ) → p < length ps → (key : TypeNode) (n v : ℕ) → key ≡ key-of ps (part ps p) → v ≡ variables (take p ps) → n ≡ cond (eqb (key .kind) 0) v (key .left) → node (key .kind) n (key .right) ≡ getD (records ps) p zero-node

@@ -47,10 +47,10 @@ module _ (ns : List Node) (w w′ : Work) (r : ℕ → ℕ) (ps : List Ty) (i p 
         types = ts ++ (t ∷ []);
         long = length-push ts t ∙ ap (λ (k : ℕ). k + 1) (s .long);
         reads = λ k h.
-          ⊎-elim
-          (λ (q : k ≡ i). subst (λ (j : ℕ). Reads ns (r j) (getD (ts ++ (t ∷ [])) j (variable 0))) (sym q) (subst (Reads ns (r i)) (sym (getD-push ts t (variable 0) i (s .long))) (e .reads)))
-          (λ (ne : k ≢ i). let lt : k < length ts = omega (arith, s .long) in subst (Reads ns (r k)) (sym (getD-append-left ts (t ∷ []) (variable 0) k lt)) (s .reads k (omega arith)))
-          (cases-eq k i);
+            ⊎-elim
+            (λ (q : k ≡ i). subst (λ (j : ℕ). Reads ns (r j) (getD (ts ++ (t ∷ [])) j (variable 0))) (sym q) (subst (Reads ns (r i)) (sym (getD-push ts t (variable 0) i (s .long))) (e .reads)))
+            (λ (ne : k ≢ i). let lt : k < length ts = omega (arith, s .long) in subst (Reads ns (r k)) (sym (getD-append-left ts (t ∷ []) (variable 0) k lt)) (s .reads k (omega arith)))
+            (cases-eq k i);
         state = subst (State ns w′) (sym (firsts-push ps ts t)) (e .state);
       }
 
@@ -66,13 +66,13 @@ placed-more ns w w′ r qs i p flat h s x placed k l =
     let f = firsts-push [] ts t in
     ⊎-elim
     (λ (q : k ≡ i).
-      subst (λ (j : ℕ). getD (set qs i p) j 0 ≡ place (parts (ts ++ (t ∷ []))) (getD (ts ++ (t ∷ [])) j (variable 0))) (sym q)
-      (getD-set-same qs i p 0 h ∙ e .here ∙ ap₂ place (sym f) (sym (getD-push ts t (variable 0) i (s .long)))))
+    subst (λ (j : ℕ). getD (set qs i p) j 0 ≡ place (parts (ts ++ (t ∷ []))) (getD (ts ++ (t ∷ [])) j (variable 0))) (sym q)
+    (getD-set-same qs i p 0 h ∙ e .here ∙ ap₂ place (sym f) (sym (getD-push ts t (variable 0) i (s .long)))))
     (λ (ne : k ≢ i).
-      let lt : k < length ts = omega (arith, s .long) in
-      getD-set-other qs i k p 0 ne ∙ placed k (omega arith)
-      ∙ sym (firsts-place (parts ts) (postorder t) (getD ts k (variable 0)) (parts-have ts [] (sofar-proper ns w r [] i flat s) none k lt))
-      ∙ ap₂ place (sym f) (sym (getD-append-left ts (t ∷ []) (variable 0) k lt)))
+    let lt : k < length ts = omega (arith, s .long) in
+    getD-set-other qs i k p 0 ne ∙ placed k (omega arith)
+    ∙ sym (firsts-place (parts ts) (postorder t) (getD ts k (variable 0)) (parts-have ts [] (sofar-proper ns w r [] i flat s) none k lt))
+    ∙ ap₂ place (sym f) (sym (getD-append-left ts (t ∷ []) (variable 0) k lt)))
     (cases-eq k i)
 
 pub walked-at : (ns : List Node) (w w′ : Work) (at to p : ℕ) → at ≡ to → Walked ns w w′ at p → Walked ns w w′ to p

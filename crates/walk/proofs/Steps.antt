@@ -44,21 +44,23 @@ grown-none : (ms : List ℕ) → Grown ms ms
 grown-none ms k = (λ was. refl, λ z one. omega (arith, sym z ∙ one))
 
 pub grown-then : (a b d : List ℕ) → Grown a b → Grown b d → Grown a d
-grown-then a b d p q k =
-    (λ was. (let e = p k .0 was in q k .0 (λ z. was (sym e ∙ z)) ∙ e),
-    λ z one. ⊎-elim (λ (y : getD b k 0 ≡ 0). q k .1 y one) (λ (n : getD b k 0 ≡ 0 → ⊥). p k .1 z (sym (q k .0 n) ∙ one)) (cases-eq (getD b k 0) 0))
+grown-then a b d p q k = (
+  λ was. (let e = p k .0 was in q k .0 (λ z. was (sym e ∙ z)) ∙ e),
+  λ z one. ⊎-elim (λ (y : getD b k 0 ≡ 0). q k .1 y one) (λ (n : getD b k 0 ≡ 0 → ⊥). p k .1 z (sym (q k .0 n) ∙ one)) (cases-eq (getD b k 0) 0),
+)
 
 -- node i is opened, what is below it is walked, and it is closed
 grown-closed : (ms ms′ : List ℕ) (i x : ℕ) → i < length ms → length ms′ ≡ length ms → getD ms i 0 ≡ 0 → 1 < x → Grown (set ms i 1) ms′ → Grown ms (set ms′ i x)
 grown-closed ms ms′ i x h len e big g k =
     ⊎-elim
-    (λ (q : k ≡ i).
-      (λ was. absurd (was (ap (λ j. getD ms j 0) q ∙ e)),
-      λ z one. omega (arith, sym (ap (λ j. getD (set ms′ i x) j 0) q ∙ getD-set-same ms′ i x 0 (omega arith)) ∙ one)))
+    (λ (q : k ≡ i). (
+      λ was. absurd (was (ap (λ j. getD ms j 0) q ∙ e)),
+      λ z one. omega (arith, sym (ap (λ j. getD (set ms′ i x) j 0) q ∙ getD-set-same ms′ i x 0 (omega arith)) ∙ one),
+    ))
     (λ (n : k ≢ i).
-      let p = getD-set-other ms i k 1 0 n in
-      let r = getD-set-other ms′ i k x 0 n in
-      (λ was. r ∙ g k .0 (λ z. was (sym p ∙ z)) ∙ p, λ z one. g k .1 (p ∙ z) (sym r ∙ one)))
+    let p = getD-set-other ms i k 1 0 n in
+    let r = getD-set-other ms′ i k x 0 n in
+    (λ was. r ∙ g k .0 (λ z. was (sym p ∙ z)) ∙ p, λ z one. g k .1 (p ∙ z) (sym r ∙ one)))
     (cases-eq k i)
 
 -- what is entered stays
@@ -86,8 +88,8 @@ module _ (ns : List Node) (w : Work) (i : ℕ) (h : i < length (w .marks)) (new 
           built = s .marked .built;
           read = λ k p l d. s .marked .read k p l (mark-other k p d);
           complete = λ k p l d j a b e.
-            (let c = s .marked .complete k p l (mark-other k p d) j a b e in
-            (omega (arith, c .0, done-other (root ns a) (c .0)), omega (arith, c .1, done-other (root ns b) (c .1))));
+              (let c = s .marked .complete k p l (mark-other k p d) j a b e in
+              (omega (arith, c .0, done-other (root ns a) (c .0)), omega (arith, c .1, done-other (root ns b) (c .1))));
         };
         long = s .long;
         made = λ p l. (let o = s .made p l in record { inside = o .inside; stands = o .stands; mark = done-other (getD (w .origins) p 0) (omega (arith, o .mark)) ∙ o .mark });
@@ -112,14 +114,14 @@ module _ (ns : List Node) (flat : Flat ns) where
         grown = grown-none (w .marks);
         mark = d′;
         exact = λ ps s.
-          (let r = s .marked .read (root ns at) p (root-inside ns flat at h) d′ in
-          let a = sym (visit-again (s .marked .built) (part ps p) (has-at ps p (variable 0) (r .0))) in
-          record {
-            type = part ps p;
-            reads = root-reads ns flat at (r .1);
-            state = subst (State ns w) a s;
-            here = sym (place-own (s .marked .built) p (variable 0) (r .0)) ∙ ap (λ (qs : List Ty). place qs (part ps p)) a;
-          });
+            (let r = s .marked .read (root ns at) p (root-inside ns flat at h) d′ in
+            let a = sym (visit-again (s .marked .built) (part ps p) (has-at ps p (variable 0) (r .0))) in
+            record {
+              type = part ps p;
+              reads = root-reads ns flat at (r .1);
+              state = subst (State ns w) a s;
+              here = sym (place-own (s .marked .built) p (variable 0) (r .0)) ∙ ap (λ (qs : List Ty). place qs (part ps p)) a;
+            });
       }
 
   -- node i was opened, its parts were walked, and it is done
@@ -145,37 +147,37 @@ module _ (ns : List Node) (flat : Flat ns) where
   walked-leaf w w′ at i p t key is h new cl reads leaf =
       walked-closed w (opening w i) w′ at i p key is h new (length-set (w .marks) i 1) (grown-none (set (w .marks) i 1)) cl (omega arith) (omega arith)
       (λ ps s.
-        let f = leaf ps in
-        let x = cl .exact ps t (opened ns w i h new ps s) (f .1) (f .0) reads in
-        record {
-          type = t;
-          reads = root-reads ns flat at (subst (λ (j : ℕ). Reads ns j t) is reads);
-          state = subst (State ns w′) (sym (f .2)) (x .0);
-          here = x .1 ∙ ap (λ (qs : List Ty). place qs t) (sym (f .2));
-        })
+      let f = leaf ps in
+      let x = cl .exact ps t (opened ns w i h new ps s) (f .1) (f .0) reads in
+      record {
+        type = t;
+        reads = root-reads ns flat at (subst (λ (j : ℕ). Reads ns j t) is reads);
+        state = subst (State ns w′) (sym (f .2)) (x .0);
+        here = x .1 ∙ ap (λ (qs : List Ty). place qs t) (sym (f .2));
+      })
 
   pub walked-branch : (w w₂ w₃ w′ : Work) (at i p k l r left right : ℕ) → i ≡ root ns at → i < length (w .marks) → getD (w .marks) i 0 ≡ 0 → length (w₃ .marks) ≡ length (w .marks) → getD ns i Var ≡ Branch k l r → 2 ≤ k → Walked ns (opening w i) w₂ l left → Walked ns w₂ w₃ r right → Closed ns w₃ w′ i (node k left right) p → Walked ns w w′ at p
   walked-branch w w₂ w₃ w′ at i p k l r left right is h new len e kind wl wr cl =
       walked-closed w w₃ w′ at i p (node k left right) is h new len (grown-then (set (w .marks) i 1) (w₂ .marks) (w₃ .marks) (wl .grown) (wr .grown)) cl (omega (arith, wl .fewer, wr .fewer)) (omega (arith, wl .rest, wr .rest))
       (λ ps s.
-        let a = wl .exact ps (opened ns w i h new ps s) in
-        let qs = firsts ps (postorder (a .type)) in
-        let b = wr .exact qs (a .state) in
-        let rs = firsts qs (postorder (b .type)) in
-        let t = branch k (a .type) (b .type) in
-        let ml = visit-built (a .type) (reads-proper ns flat (a .reads)) (s .marked .built) .1 in
-        let ml′ : has rs (a .type) ≡ true = firsts-has qs (postorder (b .type)) (a .type) ml in
-        let mr : has rs (b .type) ≡ true = visit-built (b .type) (reads-proper ns flat (b .reads)) (a .state .marked .built) .1 in
-        let el : place rs (a .type) ≡ left = firsts-place qs (postorder (b .type)) (a .type) ml ∙ sym (a .here) in
-        let reads : Reads ns i t = reads-branch e (a .reads) (b .reads) in
-        let x = cl .exact rs t (b .state) (kind, ml′, mr) (ap₂ (node k) el (sym (b .here))) reads in
-        let f = sym (firsts-branch ps k (a .type) (b .type)) in
-        record {
-          type = t;
-          reads = root-reads ns flat at (subst (λ (j : ℕ). Reads ns j t) is reads);
-          state = subst (State ns w′) f (x .0);
-          here = x .1 ∙ ap (λ (us : List Ty). place us t) f;
-        })
+      let a = wl .exact ps (opened ns w i h new ps s) in
+      let qs = firsts ps (postorder (a .type)) in
+      let b = wr .exact qs (a .state) in
+      let rs = firsts qs (postorder (b .type)) in
+      let t = branch k (a .type) (b .type) in
+      let ml = visit-built (a .type) (reads-proper ns flat (a .reads)) (s .marked .built) .1 in
+      let ml′ : has rs (a .type) ≡ true = firsts-has qs (postorder (b .type)) (a .type) ml in
+      let mr : has rs (b .type) ≡ true = visit-built (b .type) (reads-proper ns flat (b .reads)) (a .state .marked .built) .1 in
+      let el : place rs (a .type) ≡ left = firsts-place qs (postorder (b .type)) (a .type) ml ∙ sym (a .here) in
+      let reads : Reads ns i t = reads-branch e (a .reads) (b .reads) in
+      let x = cl .exact rs t (b .state) (kind, ml′, mr) (ap₂ (node k) el (sym (b .here))) reads in
+      let f = sym (firsts-branch ps k (a .type) (b .type)) in
+      record {
+        type = t;
+        reads = root-reads ns flat at (subst (λ (j : ℕ). Reads ns j t) is reads);
+        state = subst (State ns w′) f (x .0);
+        here = x .1 ∙ ap (λ (us : List Ty). place us t) f;
+      })
 
   -- the parts of an open node, once walked, are done
   pub complete-walked : (w w₂ w₃ : Work) (i k l r left right : ℕ) → getD ns i Var ≡ Branch k l r → Walked ns w w₂ l left → Walked ns w₂ w₃ r right → Complete ns (w₃ .marks) i

@@ -87,8 +87,8 @@ module _ (ns : List Node) (w w′ : Work) (rs qs : List ℕ) (n : ℕ) (flat : F
       let ts = rooted .sofar .types in
       ext-getD (variable 0) ts (map all-types rs) (rooted .sofar .long ∙ sym (length-map rs all-types))
       (λ k h.
-        let l : k < length rs = omega (arith, rooted .sofar .long) in
-        reads-one ns (rooted .sofar .reads k l) (rest .reads (getD rs k 0) (inside k l)) ∙ sym (getD-map all-types rs k 0 (variable 0) l))
+      let l : k < length rs = omega (arith, rooted .sofar .long) in
+      reads-one ns (rooted .sofar .reads k l) (rest .reads (getD rs k 0) (inside k l)) ∙ sym (getD-map all-types rs k 0 (variable 0) l))
 
   pub canonical : Canonical ns rs qs
   canonical =
@@ -98,8 +98,8 @@ module _ (ns : List Node) (w w′ : Work) (rs qs : List ℕ) (n : ℕ) (flat : F
         proper = λ i h. reads-proper ns flat (rest .reads i h);
         simple = λ s i h. reads-simple ns (flat .sound) s h (rest .reads i h);
         places = λ k h.
-          (rooted .placed k h
-          ∙ ap₂ (λ (ts : List Ty) (t : Ty). place (parts ts) t) root-types (reads-one ns (rooted .sofar .reads k h) (rest .reads (getD rs k 0) (inside k h))));
+            (rooted .placed k h
+            ∙ ap₂ (λ (ts : List Ty) (t : Ty). place (parts ts) t) root-types (reads-one ns (rooted .sofar .reads k h) (rest .reads (getD rs k 0) (inside k h))));
       }
 
   parts-long : length (parts (rooted .sofar .types)) ≡ n
@@ -118,7 +118,7 @@ module _ (ns : List Node) (w w′ : Work) (rs qs : List ℕ) (n : ℕ) (flat : F
       let ps = parts ts in
       let us = firsts ps (postorders (rest .types)) in
       let e : take n (records us) ≡ normal (map all-types rs) =
-        ap (λ (k : ℕ). take k (records us)) (sym parts-long) ∙ records-grow ps (postorders (rest .types)) (rooted .sofar .state .marked .built) ∙ ap normal root-types in
+      ap (λ (k : ℕ). take k (records us)) (sym parts-long) ∙ records-grow ps (postorders (rest .types)) (rooted .sofar .state .marked .built) ∙ ap normal root-types in
       record {
         found = canonical;
         count = sym parts-long ∙ sym (length-map ps (record-of ps)) ∙ ap (λ (l : List Ty). length (normal l)) root-types;
@@ -158,13 +158,13 @@ listed ns ms rs qs ks ls xs us bs ds n before memory kept long simple g hk hl hx
       found = canonical-kept ns ms rs qs kept long simple (g .found);
       count = g .count;
       list =
-        written memory (normal (map (g .found .types) rs)) n (sym (g .count)) fits
-        (λ p h.
+          written memory (normal (map (g .found .types) rs)) n (sym (g .count)) fits
+          (λ p h.
           same p h ∙ rows p h
           ∙ ap (λ (k : ℕ). node k (getD (ls ++ bs) p 0) (getD (xs ++ ds) p 0)) (getD-append-left ks us 0 p (omega arith))
           ∙ ap₂ (node (getD ks p 0)) (getD-append-left ls bs 0 p (omega arith)) (getD-append-left xs ds 0 p (omega arith))
           ∙ g .row p h)
-        behind;
+          behind;
     }
 
 pub cleared : (memory : List TypeNode) → ((p : ℕ) → 0 ≤ p → getD memory p zero-node ≡ zero-node) → memory ≡ replicate (length memory) zero-node

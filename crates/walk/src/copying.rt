@@ -10,7 +10,13 @@ ghost use Rattle.walk.specs.Copies.{Copy};
 use types::TypeNode;
 
 // The latest of the first `count` places of the list that has the record `x`.
-fn find_equal(list: &[TypeNode], heads: &[u32], nexts: &[u32], count: usize, x: TypeNode) -> Option<u16>
+fn find_equal(
+    list: &[TypeNode],
+    heads: &[u32],
+    nexts: &[u32],
+    count: usize,
+    x: TypeNode,
+) -> Option<u16>
     requires some { ⌜ 0 < length (now heads) ⌝ }
     requires within { ⌜ count ≤ length (now list) ⌝ }
     requires chains { ⌜ count ≤ length (now nexts) ⌝ }
@@ -41,7 +47,11 @@ fn copy_at(list: &[TypeNode], heads: &[u32], nexts: &[u32], place: usize) -> Typ
 {
     let x = list[place];
     match find_equal(list, heads, nexts, place, x) {
-        Some(equal) => TypeNode { kind: graph::LINK, left: equal, right: 0 },
+        Some(equal) => TypeNode {
+            kind: graph::LINK,
+            left: equal,
+            right: 0,
+        },
         None => x,
     }
 }

@@ -30,7 +30,14 @@ fn number_of(key: TypeNode, variables: &mut u32) -> u32
 
 // Puts the kinds of the first `count` records where the origins of their parts stood, and their fields into two more
 // columns.
-pub fn columns(graph: &[TypeNode], marks: &[u32], origins: &mut [u32], lefts: &mut [u32], rights: &mut [u32], count: u32)
+pub fn columns(
+    graph: &[TypeNode],
+    marks: &[u32],
+    origins: &mut [u32],
+    lefts: &mut [u32],
+    rights: &mut [u32],
+    count: u32,
+)
     requires flat { ⌜ Flat (map view (now graph)) ⌝ }
     requires long { ⌜ length (now marks) ≡ length (now graph) ⌝ }
     requires few { ⌜ length (now graph) ≤ 65536 ⌝ }
@@ -52,7 +59,13 @@ pub fn columns(graph: &[TypeNode], marks: &[u32], origins: &mut [u32], lefts: &m
 }
 
 // Writes the first `count` records from their columns.
-pub fn write_rows(memory: &mut [TypeNode], kinds: &[u32], lefts: &[u32], rights: &[u32], count: usize)
+pub fn write_rows(
+    memory: &mut [TypeNode],
+    kinds: &[u32],
+    lefts: &[u32],
+    rights: &[u32],
+    count: usize,
+)
     requires fits { ⌜ count ≤ length (now memory) ⌝ }
     requires first { ⌜ count ≤ length (now kinds) ⌝ }
     requires second { ⌜ count ≤ length (now lefts) ⌝ }
@@ -61,7 +74,11 @@ pub fn write_rows(memory: &mut [TypeNode], kinds: &[u32], lefts: &[u32], rights:
     ensures { λ _. ⌜ ((p : ℕ) → p < count → getD (now (memory .exit)) p zero-node ≡ node (getD (now (kinds .entry)) p 0) (getD (now (lefts .entry)) p 0) (getD (now (rights .entry)) p 0)) ⌝ }
 {
     for p in 0..count {
-        memory[p] = TypeNode { kind: kinds[p] as u8, left: lefts[p] as u16, right: rights[p] as u16 };
+        memory[p] = TypeNode {
+            kind: kinds[p] as u8,
+            left: lefts[p] as u16,
+            right: rights[p] as u16,
+        };
     }
 }
 
@@ -71,6 +88,10 @@ pub fn clear_from(memory: &mut [TypeNode], from: usize)
     ensures clear { λ _. ⌜ ((p : ℕ) → from ≤ p → getD (now (memory .exit)) p zero-node ≡ zero-node) ⌝ }
 {
     for p in from..memory.len() {
-        memory[p] = TypeNode { kind: 0, left: 0, right: 0 };
+        memory[p] = TypeNode {
+            kind: 0,
+            left: 0,
+            right: 0,
+        };
     }
 }

@@ -10,6 +10,8 @@ ghost use Rattle.graph.specs.declared.Node.the-variants.{Var};
 ghost use Rattle.walk.specs.Reads.{root, Straight, Flat};
 ghost use Rattle.walk.specs.Table.{bucket};
 ghost use Rattle.walk.specs.Work.{work, key-of, part, Marked, Origin, State, Room, Complete, Closed, Outcome};
+ghost use Rattle.types.specs.Lists.{Lawful};
+ghost use Rattle.walk.specs.Copies.{Normalized, Enough, Normalizing};
 ghost use Rattle.walk.specs.Listing.{Shut, Roots, Rest, SimpleGraph, Gathering, Listing};
 use graph::Node;
 use types::TypeNode;
@@ -36,7 +38,11 @@ fn straighten(memory: &mut [TypeNode], used: usize, i: usize)
     if let Node::Link(next) = graph::look(memory[i]) {
         let there = memory[next as usize];
         if let Node::Link(far) = graph::look(there) {
-            memory[i] = TypeNode { kind: graph::LINK, left: far, right: 0 };
+            memory[i] = TypeNode {
+                kind: graph::LINK,
+                left: far,
+                right: 0,
+            };
         }
     }
 }
@@ -96,9 +102,21 @@ fn key_at(graph: &[TypeNode], marks: &[u32], i: u16) -> TypeNode
     ensures { λ r. ⌜ ((ps : List Ty) → Marked (map view (now (graph .entry))) (now (marks .entry)) ps → r ≡ key-of ps (part ps (getD (now (marks .entry)) i 0 - 2))) ⌝ }
 {
     match graph::look(graph[i as usize]) {
-        Node::Var => TypeNode { kind: 0, left: i, right: 0 },
-        Node::Base(c) => TypeNode { kind: 1, left: c, right: 0 },
-        Node::Branch(kind, l, r) => TypeNode { kind, left: place_of(graph, marks, l), right: place_of(graph, marks, r) },
+        Node::Var => TypeNode {
+            kind: 0,
+            left: i,
+            right: 0,
+        },
+        Node::Base(c) => TypeNode {
+            kind: 1,
+            left: c,
+            right: 0,
+        },
+        Node::Branch(kind, l, r) => TypeNode {
+            kind,
+            left: place_of(graph, marks, l),
+            right: place_of(graph, marks, r),
+        },
         Node::Link(_) => unreachable(),
     }
 }
@@ -112,7 +130,15 @@ fn bucket_of(x: TypeNode, size: usize) -> usize
 }
 
 // The place of the part with the key `x`.
-fn find(graph: &[TypeNode], marks: &[u32], origins: &[u32], heads: &[u32], nexts: &[u32], count: u32, x: TypeNode) -> Option<u16>
+fn find(
+    graph: &[TypeNode],
+    marks: &[u32],
+    origins: &[u32],
+    heads: &[u32],
+    nexts: &[u32],
+    count: u32,
+    x: TypeNode,
+) -> Option<u16>
     requires flat { ⌜ Flat (map view (now graph)) ⌝ }
     requires some { ⌜ 0 < length (now graph) ⌝ }
     requires room { ⌜ Room (length (now graph)) (work (now marks) (now origins) (now heads) (now nexts) count) ⌝ }
@@ -145,7 +171,15 @@ fn enter(heads: &mut [u32], nexts: &mut [u32], place: u32, x: TypeNode)
 }
 
 // Puts a part with the key `x` behind the others, with the node `i` as its origin.
-fn append(marks: &mut [u32], origins: &mut [u32], heads: &mut [u32], nexts: &mut [u32], count: &mut u32, i: u16, x: TypeNode) -> u16
+fn append(
+    marks: &mut [u32],
+    origins: &mut [u32],
+    heads: &mut [u32],
+    nexts: &mut [u32],
+    count: &mut u32,
+    i: u16,
+    x: TypeNode,
+) -> u16
     requires inside { ⌜ i < length (now marks) ⌝ }
     requires some { ⌜ 0 < length (now heads) ⌝ }
     requires origin { ⌜ now count < length (now origins) ⌝ }
@@ -167,7 +201,16 @@ fn append(marks: &mut [u32], origins: &mut [u32], heads: &mut [u32], nexts: &mut
 }
 
 // Finds the part with the key `x`, the type of the node `i`, or puts it behind the others; the node is then done.
-fn close(graph: &[TypeNode], marks: &mut [u32], origins: &mut [u32], heads: &mut [u32], nexts: &mut [u32], count: &mut u32, i: u16, x: TypeNode) -> u16
+fn close(
+    graph: &[TypeNode],
+    marks: &mut [u32],
+    origins: &mut [u32],
+    heads: &mut [u32],
+    nexts: &mut [u32],
+    count: &mut u32,
+    i: u16,
+    x: TypeNode,
+) -> u16
     requires flat { ⌜ Flat (map view (now graph)) ⌝ }
     requires inside { ⌜ i < length (now graph) ⌝ }
     requires stands { ⌜ alive (getD (map view (now graph)) i Var) ≡ 1 ⌝ }
@@ -189,7 +232,15 @@ fn close(graph: &[TypeNode], marks: &mut [u32], origins: &mut [u32], heads: &mut
 
 // Lists the type of the node `at`, its left part before its right one and both before itself, and says where it stands.
 // A class that is done is not walked again; one that is met while it is open is a loop.
-fn walk(graph: &[TypeNode], at: u16, marks: &mut [u32], origins: &mut [u32], heads: &mut [u32], nexts: &mut [u32], count: &mut u32) -> Result<u16, Looped>
+fn walk(
+    graph: &[TypeNode],
+    at: u16,
+    marks: &mut [u32],
+    origins: &mut [u32],
+    heads: &mut [u32],
+    nexts: &mut [u32],
+    count: &mut u32,
+) -> Result<u16, Looped>
     requires inside { ⌜ at < length (now graph) ⌝ }
     requires flat { ⌜ Flat (map view (now graph)) ⌝ }
     requires room { ⌜ Room (length (now graph)) (work (now marks) (now origins) (now heads) (now nexts) (now count)) ⌝ }
@@ -206,19 +257,62 @@ fn walk(graph: &[TypeNode], at: u16, marks: &mut [u32], origins: &mut [u32], hea
     }
     marks[i as usize] = 1;
     match graph::look(graph[i as usize]) {
-        Node::Var => Ok(close(graph, marks, origins, heads, nexts, count, i, TypeNode { kind: 0, left: i, right: 0 })),
-        Node::Base(c) => Ok(close(graph, marks, origins, heads, nexts, count, i, TypeNode { kind: 1, left: c, right: 0 })),
+        Node::Var => Ok(close(
+            graph,
+            marks,
+            origins,
+            heads,
+            nexts,
+            count,
+            i,
+            TypeNode {
+                kind: 0,
+                left: i,
+                right: 0,
+            },
+        )),
+        Node::Base(c) => Ok(close(
+            graph,
+            marks,
+            origins,
+            heads,
+            nexts,
+            count,
+            i,
+            TypeNode {
+                kind: 1,
+                left: c,
+                right: 0,
+            },
+        )),
         Node::Branch(kind, l, r) => {
             let left = walk(graph, l, marks, origins, heads, nexts, count)?;
             let right = walk(graph, r, marks, origins, heads, nexts, count)?;
-            Ok(close(graph, marks, origins, heads, nexts, count, i, TypeNode { kind, left, right }))
+            Ok(close(
+                graph,
+                marks,
+                origins,
+                heads,
+                nexts,
+                count,
+                i,
+                TypeNode { kind, left, right },
+            ))
         }
         Node::Link(_) => unreachable(),
     }
 }
 
 // Lists the types of the roots, one after the other, and writes for each where it stands; says how many places there are.
-fn walk_roots(graph: &[TypeNode], roots: &mut [u32], marks: &mut [u32], origins: &mut [u32], heads: &mut [u32], nexts: &mut [u32], count: &mut u32) -> Result<u32, Looped>
+fn walk_roots(
+    graph: &[TypeNode],
+    roots: &mut [u32],
+    marks: &mut [u32],
+    origins: &mut [u32],
+    heads: &mut [u32],
+    nexts: &mut [u32],
+    count: &mut u32,
+) -> Result<u32, Looped>
     requires inside { ⌜ ((k : ℕ) → k < length (now roots) → getD (now roots) k 0 < length (now graph)) ⌝ }
     requires flat { ⌜ Flat (map view (now graph)) ⌝ }
     requires room { ⌜ Room (length (now graph)) (work (now marks) (now origins) (now heads) (now nexts) (now count)) ⌝ }
@@ -234,7 +328,14 @@ fn walk_roots(graph: &[TypeNode], roots: &mut [u32], marks: &mut [u32], origins:
 }
 
 // Lists the types of all nodes, behind what is listed.
-fn walk_rest(graph: &[TypeNode], marks: &mut [u32], origins: &mut [u32], heads: &mut [u32], nexts: &mut [u32], count: &mut u32) -> Result<u32, Looped>
+fn walk_rest(
+    graph: &[TypeNode],
+    marks: &mut [u32],
+    origins: &mut [u32],
+    heads: &mut [u32],
+    nexts: &mut [u32],
+    count: &mut u32,
+) -> Result<u32, Looped>
     requires flat { ⌜ Flat (map view (now graph)) ⌝ }
     requires room { ⌜ Room (length (now graph)) (work (now marks) (now origins) (now heads) (now nexts) (now count)) ⌝ }
     requires state { ⌜ ((ps : List Ty) × State (map view (now graph)) (work (now marks) (now origins) (now heads) (now nexts) (now count)) ps) ⌝ }
@@ -257,7 +358,14 @@ fn clear(numbers: &mut [u32])
 
 // Walks the roots and then all nodes, and gathers the normal list of the roots' types in the last three memories of
 // numbers; says how many records it has.
-fn walk_all(graph: &[TypeNode], roots: &mut [u32], marks: &mut [u32], origins: &mut [u32], heads: &mut [u32], nexts: &mut [u32]) -> Result<u32, Looped>
+fn walk_all(
+    graph: &[TypeNode],
+    roots: &mut [u32],
+    marks: &mut [u32],
+    origins: &mut [u32],
+    heads: &mut [u32],
+    nexts: &mut [u32],
+) -> Result<u32, Looped>
     requires inside { ⌜ ((k : ℕ) → k < length (now roots) → getD (now roots) k 0 < length (now graph)) ⌝ }
     requires flat { ⌜ Flat (map view (now graph)) ⌝ }
     requires few { ⌜ length (now graph) ≤ 65536 ⌝ }
@@ -279,7 +387,15 @@ fn walk_all(graph: &[TypeNode], roots: &mut [u32], marks: &mut [u32], origins: &
 // Puts the normal list of the types of the roots in place of the graph that stands in the first `used` records of the
 // memory, with zero nodes behind it, and in place of each root where its type stands in the list; says how many records
 // the list has. The four memories of numbers are room to work in. Where no types solve the graph, the memory is cleared.
-pub fn list_types(memory: &mut [TypeNode], used: usize, roots: &mut [u32], marks: &mut [u32], origins: &mut [u32], heads: &mut [u32], nexts: &mut [u32]) -> Result<usize, Looped>
+pub fn list_types(
+    memory: &mut [TypeNode],
+    used: usize,
+    roots: &mut [u32],
+    marks: &mut [u32],
+    origins: &mut [u32],
+    heads: &mut [u32],
+    nexts: &mut [u32],
+) -> Result<usize, Looped>
     requires fits { ⌜ used ≤ length (now memory) ⌝ }
     requires few { ⌜ used ≤ 65536 ⌝ }
     requires sound { ⌜ Sound (graph (now memory) used) ⌝ }
@@ -291,7 +407,14 @@ pub fn list_types(memory: &mut [TypeNode], used: usize, roots: &mut [u32], marks
     ensures { λ r. ⌜ Listing (graph (now (memory .entry)) used) (now (roots .entry)) (now (roots .exit)) (now (memory .exit)) r ⌝ }
 {
     flatten(memory, used);
-    match walk_all(&memory[..used], roots, &mut marks[..used], &mut origins[..used], &mut heads[..used], &mut nexts[..used]) {
+    match walk_all(
+        &memory[..used],
+        roots,
+        &mut marks[..used],
+        &mut origins[..used],
+        &mut heads[..used],
+        &mut nexts[..used],
+    ) {
         Ok(count) => {
             gather::write_rows(memory, origins, heads, nexts, count as usize);
             gather::clear_from(memory, count as usize);
@@ -302,4 +425,52 @@ pub fn list_types(memory: &mut [TypeNode], used: usize, roots: &mut [u32], marks
             Err(Looped::Loop)
         }
     }
+}
+
+// The normal list of what a lawful list means, with memories that suffice.
+fn normalize_lawful(
+    list: &[TypeNode],
+    memory: &mut [TypeNode],
+    marks: &mut [u32],
+    origins: &mut [u32],
+    heads: &mut [u32],
+    nexts: &mut [u32],
+) -> usize
+    requires lawful { ⌜ Lawful (now list) ⌝ }
+    requires fits { ⌜ length (now list) ≤ length (now memory) ⌝ }
+    requires enough { ⌜ Enough (now list) (now marks) (now origins) (now heads) (now nexts) ⌝ }
+    ensures { λ r. ⌜ Normalized (now (list .entry)) (now (memory .exit)) r ⌝ }
+{
+    let used = list.len();
+    copying::copy(list, memory, &mut heads[..used], &mut nexts[..used]);
+    let mut roots = [used as u32 - 1];
+    match list_types(memory, used, &mut roots, marks, origins, heads, nexts) {
+        Ok(count) => count,
+        Err(Looped::Loop) => unreachable(),
+    }
+}
+
+// Puts the normal list of the type that a list means into the memory, with zero nodes behind it, and says how many
+// records it has. The four memories of numbers are room to work in; a refusal leaves the memory as it is.
+pub fn normalize(
+    list: &[TypeNode],
+    memory: &mut [TypeNode],
+    marks: &mut [u32],
+    origins: &mut [u32],
+    heads: &mut [u32],
+    nexts: &mut [u32],
+) -> Result<usize, Refused>
+    ensures { λ r. ⌜ Normalizing (now (list .entry)) (now (memory .entry)) (now (memory .exit)) (now (marks .entry)) (now (origins .entry)) (now (heads .entry)) (now (nexts .entry)) r ⌝ }
+{
+    if !types::is_lawful(list) {
+        return Err(Refused::Unlawful);
+    }
+    let used = list.len();
+    if memory.len() < used {
+        return Err(Refused::ShortMemory);
+    }
+    if marks.len() < used || origins.len() < used || heads.len() < used || nexts.len() < used {
+        return Err(Refused::ShortNumbers);
+    }
+    Ok(normalize_lawful(list, memory, marks, origins, heads, nexts))
 }

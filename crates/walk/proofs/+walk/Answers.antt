@@ -60,7 +60,6 @@ close-requires t c κs =
       state = (c .pre .state .0, opened (map view ts) _ i h new (c .pre .state .0) s);
     }
 
-
 pub close-requires-in-Base : need.close-requires-in-Base
 close-requires-in-Base t c κs =
     let ts = c .args .graph .now in
@@ -82,7 +81,6 @@ close-requires-in-Base t c κs =
       state = (c .pre .state .0, opened (map view ts) _ i h new (c .pre .state .0) s);
     }
 
-
 pub walk-requires : need.walk-requires
 walk-requires t c κs =
     let ts = c .args .graph .now in
@@ -98,7 +96,6 @@ walk-requires t c κs =
     let z = zeros-set ms i 1 (omega arith) h new in
     (omega (arith, c .measured), (omega (arith, in-graph .0, length-map ts view), (c .pre .flat, (ro .0, (c .pre .state .0, opened (map view ts) _ i h new (c .pre .state .0) s)))))
 
-
 pub returns-in-Break-left : need.returns-in-Break-left
 returns-in-Break-left t c =
     let ts = c .args .graph .now in
@@ -113,7 +110,6 @@ returns-in-Break-left t c =
     let in-graph = inside-at (map view ts) i _ (c .pre .flat .sound) (omega (arith, w .0, length-map ts view)) f in
     let p = err-from-errBy (c .from-residual .result) (c .from-residual .ensures .1) in
     rw (p .1) (λ above. c .in-Break-left .ensures tt (above-part (map view ts) (c .pre .flat) ms (c .args .at) i (c .in-Branch .l) (omega (arith, length-map ts view)) (c .root-of-i .ensures) (smaller-left (map view ts) (c .pre .flat) i _ _ _ (omega (arith, w .0, length-map ts view)) f) above))
-
 
 pub walk-requires-in-Branch : need.walk-requires-in-Branch
 walk-requires-in-Branch t c κs =
@@ -133,7 +129,6 @@ walk-requires-in-Branch t c κs =
     let k = c .walk .kept in
     (omega (arith, c .measured, l .fewer), (omega (arith, in-graph .1, length-map ts view), (c .pre .flat, (room-walked (map view ts) (length ts) _ _ _ _ (ro .0) l (k .marks) (k .origins) (k .heads) (k .nexts), (_, x .state)))))
 
-
 pub returns-in-Break-right : need.returns-in-Break-right
 returns-in-Break-right t c =
     let ts = c .args .graph .now in
@@ -148,7 +143,6 @@ returns-in-Break-right t c =
     let in-graph = inside-at (map view ts) i _ (c .pre .flat .sound) (omega (arith, w .0, length-map ts view)) f in
     let p = err-from-errBy (c .from-residual-in-Break-right .result) (c .from-residual-in-Break-right .ensures .1) in
     rw (p .1) (λ above. c .in-Break-right .ensures tt (above-grown (map view ts) (c .pre .flat) _ _ _ (c .in-Continue-left .ensures tt .grown) (above-part (map view ts) (c .pre .flat) ms (c .args .at) i (c .in-Branch .r) (omega (arith, length-map ts view)) (c .root-of-i .ensures) (smaller-right (map view ts) (c .pre .flat) i _ _ _ (omega (arith, w .0, length-map ts view)) f) above)))
-
 
 pub close-requires-in-Branch : need.close-requires-in-Branch
 close-requires-in-Branch t c κs =
@@ -179,7 +173,6 @@ close-requires-in-Branch t c κs =
       state = (_, y .state);
     }
 
-
 pub unreachable-requires : need.unreachable-requires
 unreachable-requires t c κs = absurd (not-link (map view (c .args .graph .now)) (c .root-of-i .result) _ (root-within (c .args .graph .now) (c .args .at) (c .root-of-i .result) (c .pre .flat) (c .pre .inside) (c .root-of-i .ensures) .1) (nodes-at (c .args .graph .now) (c .root-of-i .result) ∙ sym (c .in-Link .ensures tt)))
 
@@ -196,7 +189,6 @@ returns-in-Var t c =
     let f = nodes-at ts i ∙ sym (c .in-Var .ensures tt) in
     walked-leaf (map view ts) (c .pre .flat) _ _ (c .args .at) i _ (variable i) _ (c .root-of-i .ensures) h new (c .close .ensures) (reads-variable f) (λ ps. (refl, tt, refl))
 
-
 pub returns-in-Base : need.returns-in-Base
 returns-in-Base t c =
     let ts = c .args .graph .now in
@@ -209,7 +201,6 @@ returns-in-Base t c =
     let ro = room-opened (map view ts) _ i h new (length ts) (c .pre .room) in
     let f = nodes-at ts i ∙ sym (c .in-Base .ensures tt) in
     walked-leaf (map view ts) (c .pre .flat) _ _ (c .args .at) i _ (base (c .in-Base .c)) _ (c .root-of-i .ensures) h new (c .close-in-Base .ensures) (reads-base f) (λ ps. (refl, tt, refl))
-
 
 pub returns-in-Continue-right : need.returns-in-Continue-right
 returns-in-Continue-right t c =
@@ -226,4 +217,3 @@ returns-in-Continue-right t c =
     let l = c .in-Continue-left .ensures tt in
     let r = c .in-Continue-right .ensures tt in
     walked-branch (map view ts) (c .pre .flat) _ _ _ _ (c .args .at) i _ _ _ _ _ _ (c .root-of-i .ensures) h new (c .walk-in-Branch .kept .marks ∙ c .walk .kept .marks ∙ length-set ms i 1) f (subst Kind f (c .pre .flat .kinds i)) l r (c .close-in-Branch .ensures)
-

@@ -22,9 +22,9 @@ loop-at-again c ps s =
     let k = c .loop-at .inv ps s in
     seek-next (λ p. key-of ps (part ps p)) (c .args .count) _ _ (c .args .x) (s .table) (c .loop-at .at) (omega arith) k
     (λ d.
-      let e : c .key-at-y .result ≡ c .args .x = key-there _ _ ps s (c .loop-at .at - 1) (c .key-at-y .result) (omega (arith, k .low)) (c .key-at-y .ensures ps (s .marked)) ∙ d in
-      elim (c .else-y-x .came) [
-        else-y-x·by·then-y-x·then-y-x-2·else-y-x-3 w ↦ w .if-y-x-3 .left (ap (λ (n : TypeNode). n .right) e)
-        | else-y-x·by·then-y-x·else-y-x-2 w ↦ w .if-y-x-2 .left (ap (λ (n : TypeNode). n .left) e)
-        | else-y-x·by·else-y-x w ↦ w .if-y-x .left (ap (λ (n : TypeNode). n .kind) e)
-      ])
+    let e : c .key-at-y .result ≡ c .args .x = key-there _ _ ps s (c .loop-at .at - 1) (c .key-at-y .result) (omega (arith, k .low)) (c .key-at-y .ensures ps (s .marked)) ∙ d in
+    elim (c .else-y-x .came) [
+      | else-y-x·by·then-y-x·then-y-x-2·else-y-x-3 w ↦ w .if-y-x-3 .left (ap (λ (n : TypeNode). n .right) e)
+      | else-y-x·by·then-y-x·else-y-x-2 w ↦ w .if-y-x-2 .left (ap (λ (n : TypeNode). n .left) e)
+      | else-y-x·by·else-y-x w ↦ w .if-y-x .left (ap (λ (n : TypeNode). n .kind) e)
+    ])

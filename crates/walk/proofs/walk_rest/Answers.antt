@@ -21,9 +21,10 @@ pub loop-i-again : need.loop-i-again
 loop-i-again c =
     let ns = map view (c .args .graph .now) in
     let x = c .in-Continue-walk .ensures tt in
-    let k = c .walk .kept in
-    (λ ps s. sofar-more ns _ _ (λ j. j) ps (c .loop-i .i) _ (c .loop-i .inv .0 ps s) x,
-    (shut-grown _ _ (x .grown) (c .loop-i .inv .1 .0), room-walked ns _ _ _ _ _ (c .loop-i .inv .1 .1) x (k .marks) (k .origins) (k .heads) (k .nexts)))
+    let k = c .walk .kept in (
+      λ ps s. sofar-more ns _ _ (λ j. j) ps (c .loop-i .i) _ (c .loop-i .inv .0 ps s) x,
+      (shut-grown _ _ (x .grown) (c .loop-i .inv .1 .0), room-walked ns _ _ _ _ _ (c .loop-i .inv .1 .1) x (k .marks) (k .origins) (k .heads) (k .nexts)),
+    )
 
 pub returns : need.returns
 returns c =

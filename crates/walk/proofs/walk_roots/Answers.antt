@@ -26,12 +26,19 @@ loop-i-again c =
     let x = c .in-Continue-place .ensures tt in
     let y = walked-at ns _ _ _ (getD (c .args .roots .now) i 0) _ (same i (omega arith)) x in
     let s = c .loop-i .inv .0 in
-    let k = c .walk .kept in
-    (sofar-more ns _ _ (λ k. getD (c .args .roots .now) k 0) [] i (c .in-Continue-place .place) s y,
-    (placed-more ns _ _ (λ k. getD (c .args .roots .now) k 0) (c .loop-i .roots) i (c .in-Continue-place .place) (c .pre .flat) (omega arith) s y (c .loop-i .inv .1 .0),
-    (shut-grown _ _ (x .grown) (c .loop-i .inv .1 .1 .0),
-    (room-walked ns _ _ _ _ _ (c .loop-i .inv .1 .1 .1 .0) x (k .marks) (k .origins) (k .heads) (k .nexts),
-    λ j l. let ne : j ≢ i = omega arith in getD-set-other (c .loop-i .roots) i j (c .in-Continue-place .place) 0 ne ∙ same j (omega arith)))))
+    let k = c .walk .kept in (
+      sofar-more ns _ _ (λ k. getD (c .args .roots .now) k 0) [] i (c .in-Continue-place .place) s y,
+      (
+        placed-more ns _ _ (λ k. getD (c .args .roots .now) k 0) (c .loop-i .roots) i (c .in-Continue-place .place) (c .pre .flat) (omega arith) s y (c .loop-i .inv .1 .0),
+        (
+          shut-grown _ _ (x .grown) (c .loop-i .inv .1 .1 .0),
+          (
+            room-walked ns _ _ _ _ _ (c .loop-i .inv .1 .1 .1 .0) x (k .marks) (k .origins) (k .heads) (k .nexts),
+            λ j l. let ne : j ≢ i = omega arith in getD-set-other (c .loop-i .roots) i j (c .in-Continue-place .place) 0 ne ∙ same j (omega arith),
+          ),
+        ),
+      ),
+    )
 
 pub returns : need.returns
 returns c = rooted _ _ (c .args .roots .now) _ (c .loop-i .i) (omega arith) (c .loop-i .inv .0) (c .loop-i .inv .1 .0) (c .loop-i .inv .1 .1 .0) (room-nodes (c .args .graph .now) _ (c .loop-i .inv .1 .1 .1 .0))

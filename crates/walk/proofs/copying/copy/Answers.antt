@@ -9,6 +9,7 @@ use Rattle.walk.proofs.Gathering.{below-set}
 use Rattle.walk.proofs.copying.copy.Needs as need
 
 pub loop-place-again : need.loop-place-again
-loop-place-again c =
-    (below-set (λ p x. Copy (c .args .list .now) p (view x)) zero-node (c .loop-place .memory) (c .loop-place .place) (c .copy-at .result) (omega arith) (c .loop-place .inv .0) (c .copy-at .ensures),
-    table-entered (c .args .list .now) (length (c .args .list .now)) (c .loop-place .place) _ _ _ _ (omega arith) (omega arith) (omega arith) (c .loop-place .inv .1) (c .enter .ensures .heads) (c .enter .ensures .nexts))
+loop-place-again c = (
+  below-set (λ p x. Copy (c .args .list .now) p (view x)) zero-node (c .loop-place .memory) (c .loop-place .place) (c .copy-at .result) (omega arith) (c .loop-place .inv .0) (c .copy-at .ensures),
+  table-entered (c .args .list .now) (length (c .args .list .now)) (c .loop-place .place) _ _ _ _ (omega arith) (omega arith) (omega arith) (c .loop-place .inv .1) (c .enter .ensures .heads) (c .enter .ensures .nexts),
+)

@@ -11,13 +11,14 @@ use Rattle.walk.proofs.gather.clear_from.Needs as need
 pub loop-p-again : need.loop-p-again
 loop-p-again c =
     let m = c .loop-p .memory in
-    let p = c .loop-p .p in
-    (λ q h. let ne : q ≢ p = omega arith in getD-set-other m p q zero-node zero-node ne ∙ c .loop-p .inv .0 q h,
-    λ q g h.
-      ⊎-elim
-      (λ (e : q ≡ p). ap (λ (j : ℕ). getD (set m p zero-node) j zero-node) e ∙ getD-set-same m p zero-node zero-node (omega arith))
-      (λ (ne : q ≢ p). getD-set-other m p q zero-node zero-node ne ∙ c .loop-p .inv .1 q g (omega arith))
-      (cases-eq q p))
+    let p = c .loop-p .p in (
+      λ q h. let ne : q ≢ p = omega arith in getD-set-other m p q zero-node zero-node ne ∙ c .loop-p .inv .0 q h,
+      λ q g h.
+          ⊎-elim
+          (λ (e : q ≡ p). ap (λ (j : ℕ). getD (set m p zero-node) j zero-node) e ∙ getD-set-same m p zero-node zero-node (omega arith))
+          (λ (ne : q ≢ p). getD-set-other m p q zero-node zero-node ne ∙ c .loop-p .inv .1 q g (omega arith))
+          (cases-eq q p),
+    )
 
 pub returns : need.returns
 returns c =

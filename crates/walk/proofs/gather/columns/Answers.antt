@@ -32,13 +32,17 @@ loop-p-again c =
     let same = inv .1 .1 p (omega arith) in
     let e = c .number-of .ensures in
     let w = inv .0 (m .0) (m .1) (m .3) in
-    let bound : c .loop-p .variables < 65536 = omega (arith, w .1, variables-take (m .0) p (omega arith)) in
-    (λ ps h k.
-      (let is = key-made (map view (c .args .graph .now)) (c .args .marks .now) ps (getD (c .args .origins .now) p 0) (getD (c .loop-p .origins) p 0) p key o same (c .key-at-key .ensures ps k) in
-      let v = inv .0 ps h k in
-      (columns-more (c .loop-p .origins) (c .loop-p .lefts) (c .loop-p .rights) p (omega arith) (omega arith) (omega arith) (key .kind) (c .number-of .result) (key .right) ps
-        (row-worked ps (k .built) p (omega arith) key (c .number-of .result) (c .loop-p .variables) is (v .1) (e .value)) (v .0),
-      variables-worked ps (k .built) p (omega arith) key (c .loop-p .variables) _ is (v .1) (e .count))),
-    (narrow-more (c .loop-p .origins) (c .loop-p .lefts) (c .loop-p .rights) p (omega arith) (omega arith) (omega arith) (key .kind) (c .number-of .result) (key .right)
-      (omega arith) (number-narrow (eqb (key .kind) 0) (c .number-of .result) (c .loop-p .variables) (key .left) (e .value) bound (omega arith)) (omega arith) (inv .1 .0),
-    λ q h. let ne : q ≢ p = omega arith in getD-set-other (c .loop-p .origins) p q (key .kind) 0 ne ∙ inv .1 .1 q (omega arith)))
+    let bound : c .loop-p .variables < 65536 = omega (arith, w .1, variables-take (m .0) p (omega arith)) in (
+      λ ps h k.
+          (let is = key-made (map view (c .args .graph .now)) (c .args .marks .now) ps (getD (c .args .origins .now) p 0) (getD (c .loop-p .origins) p 0) p key o same (c .key-at-key .ensures ps k) in
+          let v = inv .0 ps h k in (
+            columns-more (c .loop-p .origins) (c .loop-p .lefts) (c .loop-p .rights) p (omega arith) (omega arith) (omega arith) (key .kind) (c .number-of .result) (key .right) ps
+                (row-worked ps (k .built) p (omega arith) key (c .number-of .result) (c .loop-p .variables) is (v .1) (e .value)) (v .0),
+            variables-worked ps (k .built) p (omega arith) key (c .loop-p .variables) _ is (v .1) (e .count),
+          )),
+      (
+        narrow-more (c .loop-p .origins) (c .loop-p .lefts) (c .loop-p .rights) p (omega arith) (omega arith) (omega arith) (key .kind) (c .number-of .result) (key .right)
+            (omega arith) (number-narrow (eqb (key .kind) 0) (c .number-of .result) (c .loop-p .variables) (key .left) (e .value) bound (omega arith)) (omega arith) (inv .1 .0),
+        λ q h. let ne : q ≢ p = omega arith in getD-set-other (c .loop-p .origins) p q (key .kind) 0 ne ∙ inv .1 .1 q (omega arith),
+      ),
+    )
