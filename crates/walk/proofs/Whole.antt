@@ -16,13 +16,14 @@ use Rattle.normal.specs.Built.{Built, none}
 use Rattle.normal.specs.Laws.{Proper, Simple}
 use Rattle.normal.proofs.Parts.{firsts-grows, parts-built}
 use Rattle.normal.proofs.Meaning.{records-grow}
+use Rattle.normal.proofs.Rename.{renaming-keeps-list}
 use Rattle.graph.specs.Graph.{Says, Solves, Sound, Kept, Always}
 use Rattle.graph.proofs.Writes.{inside-at}
 use Rattle.graph.specs.declared.Node.{Node}
 use Rattle.graph.specs.declared.Node.the-variants.{Var, Base, Branch, Link}
 use Rattle.walk.specs.Reads.{Reads, reads-variable, reads-base, reads-branch, reads-link, MostGeneral, Flat}
 use Rattle.walk.specs.Work.{Work, work, Marked, State, Room, zeros}
-use Rattle.walk.specs.Listing.{Shut, Unsolvable, Sofar, Placed, Rooted, Columns, Narrow, SimpleNode, SimpleGraph, Canonical, Gathered, Listed}
+use Rattle.walk.specs.Listing.{Shut, Unsolvable, Sofar, Placed, Rooted, Columns, Narrow, SimpleNode, SimpleGraph, Canonical, Gathered, Listed, One-list}
 use Rattle.walk.proofs.Graphs.{spelt-as, reads-one, general, reads-proper}
 use Rattle.walk.proofs.Chains.{table-none}
 use Rattle.walk.proofs.Gathering.{written}
@@ -169,3 +170,12 @@ listed ns ms rs qs ks ls xs us bs ds n before memory kept long simple g hk hl hx
 
 pub cleared : (memory : List TypeNode) → ((p : ℕ) → 0 ≤ p → getD memory p zero-node ≡ zero-node) → memory ≡ replicate (length memory) zero-node
 cleared memory clear = written memory [] 0 refl (omega arith) (λ p h. absurd (omega arith)) clear ∙ ap (λ (n : ℕ). replicate n zero-node) (omega arith)
+
+-- ---- one list for all most general solutions
+
+map-general : (ns : List Node) (τ σ : ℕ → Ty) → MostGeneral τ ns → Solves σ ns → (rs : List ℕ) → ((k : ℕ) → k < length rs → getD rs k 0 < length ns) → map (apply σ) (map τ rs) ≡ map σ rs
+map-general ns τ σ g s [] inside = refl
+map-general ns τ σ g s (r ∷ rs) inside = ap₂ (λ (t : Ty) (ts : List Ty). t ∷ ts) (g .general σ s r (inside 0 (omega arith))) (map-general ns τ σ g s rs (λ k h. inside (suc k) (omega arith)))
+
+pub one-list : One-list
+one-list ns rs τ σ gτ gσ inside = renaming-keeps-list (map τ rs) (map σ rs) σ τ (map-general ns τ σ gτ (gσ .solves) rs inside) (map-general ns σ τ gσ (gτ .solves) rs inside)

@@ -106,3 +106,9 @@ pub record Listed (ns : List Node) (rs qs : List ℕ) (memory : List TypeNode) (
 abbrev pub Listing : List Node → List ℕ → List ℕ → List TypeNode → Result ℕ Looped → Type 0
 Listing ns rs qs memory (Ok n) = Listed ns rs qs memory n
 Listing ns rs qs memory (Err e) = Unsolvable ns × (memory ≡ replicate (length memory) zero-node)
+
+-- Whichever most general solution is taken, the normal list of the roots' types is the same.
+abbrev pub One-list : Type 0
+One-list =
+    (ns : List Node) (rs : List ℕ) (τ σ : ℕ → Ty) → MostGeneral τ ns → MostGeneral σ ns → ((k : ℕ) → k < length rs → getD rs k 0 < length ns)
+    → normal (map τ rs) ≡ normal (map σ rs)

@@ -12,7 +12,7 @@ ghost use Rattle.walk.specs.Table.{bucket};
 ghost use Rattle.walk.specs.Work.{work, key-of, part, Marked, Origin, State, Room, Complete, Closed, Outcome};
 ghost use Rattle.types.specs.Lists.{Lawful};
 ghost use Rattle.walk.specs.Copies.{Normalized, Enough, Normalizing};
-ghost use Rattle.walk.specs.Listing.{Shut, Roots, Rest, SimpleGraph, Gathering, Listing};
+ghost use Rattle.walk.specs.Listing.{Shut, Roots, Rest, SimpleGraph, Gathering, Listing, One-list};
 use graph::Node;
 use types::TypeNode;
 
@@ -382,6 +382,13 @@ fn walk_all(
     walk_rest(graph, marks, origins, heads, nexts, &mut count)?;
     gather::columns(graph, marks, origins, heads, nexts, wanted);
     Ok(wanted)
+}
+
+// The list that is found does not hang on the solution that is taken.
+pub fn one_list_stands() -> u8
+    ensures { λ _. ⌜ One-list ⌝ }
+{
+    0
 }
 
 // Puts the normal list of the types of the roots in place of the graph that stands in the first `used` records of the
