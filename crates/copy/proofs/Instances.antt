@@ -16,7 +16,8 @@ use Rattle.graph.specs.declared.Node.{Node}
 use Rattle.graph.specs.declared.Node.the-variants.{Var, Base, Branch, Link}
 use Rattle.graph.proofs.Memory.{graph-length, graph-push}
 use Rattle.copy.specs.Copies.{IsVariable, First, Fresh}
-use Rattle.copy.specs.Told.{Agree, Told, OfList}
+use Rattle.copy.specs.Instances.{OfList}
+use Rattle.copy.specs.Told.{Agree, Told}
 use Rattle.copy.proofs.Grow.{upd, upd-same, upd-below, pushed-length, pushed-sound, pushed-pop, pushed-last, pushed-onto}
 use Rattle.copy.proofs.Reading.{variable-at, base-at, branch-at}
 
@@ -100,18 +101,19 @@ module _ (l : List TypeNode) (lawful : Lawful l) where
           sound = pushed-sound ms os x e (p .sound) (fresh-inside x f);
           long = omega (arith, le, p .long);
           back = λ v s.
-            (let b = p .back v (pushed-pop ms os x e v s) in
-            (b .0, all (λ j. v (length ns + j) ≡ apply (choice v (length ns)) (type-at l j)) (b .1) (fresh-back x v f (pushed-last ms os x e v (length ns + i) el s) (b .1))));
+              (let b = p .back v (pushed-pop ms os x e v s) in
+              (b .0, all (λ j. v (length ns + j) ≡ apply (choice v (length ns)) (type-at l j)) (b .1) (fresh-back x v f (pushed-last ms os x e v (length ns + i) el s) (b .1))));
           onto = λ v σ s.
-            (let o = p .onto v σ s in
-            let τ : Ty = apply σ (type-at l i) in
-            let w : ℕ → Ty = upd (o .0) (length ns + i) τ in
-            let below : (j : ℕ) → j < i → w (length ns + j) ≡ apply σ (type-at l j) = (λ j lt. upd-below (o .0) (length ns + i) τ (length ns + j) (omega arith) ∙ o .3 j lt) in
-            let here : w (length ns + i) ≡ τ = upd-same (o .0) (length ns + i) τ in
-            (w,
-            (λ k lt. upd-below (o .0) (length ns + i) τ k (omega arith) ∙ o .1 k lt),
-            pushed-onto ms os x e (o .0) (length ns + i) τ el (p .sound) (o .2) (fresh-onto x w σ f here below),
-            all (λ j. w (length ns + j) ≡ apply σ (type-at l j)) below here));
+              (let o = p .onto v σ s in
+              let τ : Ty = apply σ (type-at l i) in
+              let w : ℕ → Ty = upd (o .0) (length ns + i) τ in
+              let below : (j : ℕ) → j < i → w (length ns + j) ≡ apply σ (type-at l j) = (λ j lt. upd-below (o .0) (length ns + i) τ (length ns + j) (omega arith) ∙ o .3 j lt) in
+              let here : w (length ns + i) ≡ τ = upd-same (o .0) (length ns + i) τ in (
+                w,
+                (λ k lt. upd-below (o .0) (length ns + i) τ k (omega arith) ∙ o .1 k lt),
+                pushed-onto ms os x e (o .0) (length ns + i) τ el (p .sound) (o .2) (fresh-onto x w σ f here below),
+                all (λ j. w (length ns + j) ≡ apply σ (type-at l j)) below here,
+              ));
         }
 
   pub told-copied : (ns ms : List Node) (i : ℕ) → Partly ns ms (length l) → i ≡ length ns + (length l - 1) → Told ns ms i (λ v τ. OfList l τ)

@@ -50,9 +50,9 @@ module _ (l : List TypeNode) (lawful : Lawful l) where
 pub parts-lower : (l : List TypeNode) (x : TypeNode) (p : ℕ) → Lawful l → p < length l → x ≡ getD l p zero-node → (x .kind ≡ 0 → ⊥) → (x .kind ≡ 1 → ⊥) → (2 ≤ x .kind) × (x .kind ≤ 2) × (x .left < p) × (x .right < p)
 parts-lower l x p lawful h e nz no1 =
     let n : (2 ≤ getD l p zero-node .kind) × (getD l p zero-node .kind ≤ 2) × (getD l p zero-node .left < p) × (getD l p zero-node .right < p) =
-      (let k = lawful .each p h .kinds in
-      let kx : getD l p zero-node .kind ≡ x .kind = ap (λ (y : TypeNode). y .kind) (sym e) in
-      let two : 2 ≤ getD l p zero-node .kind = omega arith in
-      let low = lawful .each p h .lower two in
-      (two, k, low .0, low .1)) in
+    (let k = lawful .each p h .kinds in
+    let kx : getD l p zero-node .kind ≡ x .kind = ap (λ (y : TypeNode). y .kind) (sym e) in
+    let two : 2 ≤ getD l p zero-node .kind = omega arith in
+    let low = lawful .each p h .lower two in
+    (two, k, low .0, low .1)) in
     subst (λ (y : TypeNode). (2 ≤ y .kind) × (y .kind ≤ 2) × (y .left < p) × (y .right < p)) (sym e) n

@@ -11,7 +11,8 @@ use Rattle.graph.specs.Graph.{graph}
 use Rattle.graph.specs.declared.Node.{Node}
 use Rattle.graph.specs.declared.Node.the-variants.{Var, Base, Branch, Link}
 use Rattle.copy.specs.declared.Made.{Made}
-use Rattle.copy.specs.Told.{Told, OfList}
+use Rattle.copy.specs.Instances.{OfList}
+use Rattle.copy.specs.Told.{Told}
 
 -- the node is the variable of number a
 pub record IsVariable (x : TypeNode) (a : ℕ) : Type 0 where
@@ -22,6 +23,15 @@ pub record IsVariable (x : TypeNode) (a : ℕ) : Type 0 where
 pub record First (l : List TypeNode) (a p : ℕ) : Type 0 where
   pub here : IsVariable (getD l p zero-node) a
   pub before : (j : ℕ) → j < p → IsVariable (getD l j zero-node) a → ⊥
+
+-- the variable a stands at the place j, below i
+pub record StandsBelow (l : List TypeNode) (i a j : ℕ) : Type 0 where
+  pub below : j < i
+  pub here : IsVariable (getD l j zero-node) a
+
+-- the table has the first place of each variable that stands below i, if its number is within the table
+pub record Noted (l : List TypeNode) (i : ℕ) (seen : List ℕ) : Type 0 where
+  pub each : (j a : ℕ) → StandsBelow l i a j → a < length seen → First l a (getD seen a 0)
 
 -- what the node at a place becomes in a copy, where the places move up by n: a variable that stood before is a link to
 -- the copy of its first node

@@ -1,2 +1,3 @@
+pub mod Instances
 pub mod Told
 pub mod Copies

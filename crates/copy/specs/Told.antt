@@ -3,9 +3,7 @@ use mathlib.Core.Path.{_≡_}
 use mathlib.Core.List.{List}
 use Prim.Native.Nat.{ℕ, _<_, _≤_}
 use lib.ListN.{length}
-use Rattle.types.specs.Types.{Ty, Instance}
-use Rattle.types.specs.Lists.{meaning}
-use Rattle.types.specs.declared.TypeNode.{TypeNode}
+use Rattle.types.specs.Types.{Ty}
 use Rattle.graph.specs.Graph.{Solves, Sound}
 use Rattle.graph.specs.declared.Node.{Node}
 
@@ -24,8 +22,3 @@ pub record Told (ns ms : List Node) (i : ℕ) (E : (ℕ → Ty) → Ty → Type 
 -- no solution of ns leaves a type that E allows
 abbrev pub Never : List Node → ((ℕ → Ty) → Ty → Type 0) → Type 0
 Never ns E = (v : ℕ → Ty) (τ : Ty) → Solves v ns → E v τ → ⊥
-
--- τ is an instance of the type that the list means; a list without nodes means none
-pub record OfList (l : List TypeNode) (τ : Ty) : Type 0 where
-  pub some : 0 < length l
-  pub instance : Instance (meaning l) τ

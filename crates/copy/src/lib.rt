@@ -7,7 +7,7 @@ ghost use Rattle.std.specs.Orderings.{Decides};
 ghost use Rattle.types.specs.Lists.{Lawful, zero-node};
 ghost use Rattle.types.specs.declared.TypeNode.{TypeNode as Record};
 ghost use Rattle.graph.specs.Graph.{view, graph, Sound};
-ghost use Rattle.copy.specs.Copies.{IsVariable, First, Fresh, Copied};
+ghost use Rattle.copy.specs.Copies.{IsVariable, First, StandsBelow, Noted, Fresh, Copied};
 use graph::LINK;
 use types::BASE;
 use types::TypeNode;
@@ -42,8 +42,8 @@ fn is_variable(node: TypeNode, number: u16) -> bool
     node.kind == VARIABLE && node.left == number
 }
 
-// The first place of the variable that stands at place `i` of list `k`.
-fn first<S: Source>(source: &S, k: u16, i: u16, number: u16) -> u16
+// The first place of the variable that stands at place `i` of list `k`, looked for from the front.
+fn search<S: Source>(source: &S, k: u16, i: u16, number: u16) -> u16
     requires is { ⌜ IsVariable (getD (list (now source) k) i zero-node) number ⌝ }
     ensures low { λ r. ⌜ r ≤ i ⌝ }
     ensures first { λ r. ⌜ First (list (now (source .entry)) k) number r ⌝ }
@@ -58,30 +58,79 @@ fn first<S: Source>(source: &S, k: u16, i: u16, number: u16) -> u16
     i
 }
 
+// Whether the variable stands at the place `j`, below `i`.
+fn stands_at<S: Source>(source: &S, k: u16, i: u16, number: u16, j: u32) -> bool
+    ensures { λ r. ⌜ Decides r (StandsBelow (list (now (source .entry)) k) i number j) ⌝ }
+{
+    j < i as u32 && is_variable(source.node(k, j as u16), number)
+}
+
+// The first place of the variable that stands at place `i` of list `k`. `seen` has the first place of each variable
+// before `i` whose number is below its length; what else it holds does not matter.
+fn first<S: Source>(source: &S, k: u16, i: u16, number: u16, seen: &mut [u32]) -> u16
+    requires is { ⌜ IsVariable (getD (list (now source) k) i zero-node) number ⌝ }
+    requires noted { ⌜ Noted (list (now source) k) i (now seen) ⌝ }
+    ensures low { λ r. ⌜ r ≤ i ⌝ }
+    ensures first { λ r. ⌜ First (list (now (source .entry)) k) number r ⌝ }
+    ensures noted { λ r. ⌜ Noted (list (now (source .entry)) k) (i + 1) (now (seen .exit)) ⌝ }
+{
+    let at = number as usize;
+    if at >= seen.len() {
+        return search(source, k, i, number);
+    }
+    let j = seen[at];
+    if stands_at(source, k, i, number, j) {
+        return j as u16;
+    }
+    seen[at] = i as u32;
+    i
+}
+
 // Node `i` of list `k` for a copy that stands at `by`.
-fn fresh<S: Source>(source: &S, k: u16, i: u16, by: u16) -> TypeNode
+fn fresh<S: Source>(source: &S, k: u16, i: u16, by: u16, seen: &mut [u32]) -> TypeNode
     requires within { ⌜ i < length (list (now source) k) ⌝ }
     requires small { ⌜ by + i < 65536 ⌝ }
-    ensures { λ r. ⌜ Fresh (list (now (source .entry)) k) by i (view r) ⌝ }
+    requires noted { ⌜ Noted (list (now source) k) i (now seen) ⌝ }
+    ensures fresh { λ r. ⌜ Fresh (list (now (source .entry)) k) by i (view r) ⌝ }
+    ensures noted { λ r. ⌜ Noted (list (now (source .entry)) k) (i + 1) (now (seen .exit)) ⌝ }
 {
     let node = source.node(k, i);
     let kind = node.kind;
     if kind == VARIABLE {
-        let j = first(source, k, i, node.left);
+        let j = first(source, k, i, node.left, seen);
         if j < i {
-            TypeNode { kind: LINK, left: by + j, right: 0 }
+            TypeNode {
+                kind: LINK,
+                left: by + j,
+                right: 0,
+            }
         } else {
-            TypeNode { kind, left: 0, right: 0 }
+            TypeNode {
+                kind,
+                left: 0,
+                right: 0,
+            }
         }
     } else if kind == BASE {
         node
     } else {
-        TypeNode { kind, left: by + node.left, right: by + node.right }
+        TypeNode {
+            kind,
+            left: by + node.left,
+            right: by + node.right,
+        }
     }
 }
 
-// A copy of list `k` behind the `used` records; none of a list without nodes.
-pub fn copy<S: Source>(source: &S, k: u16, memory: &mut [TypeNode], used: usize) -> Option<Made>
+// A copy of list `k` behind the `used` records; none of a list without nodes. `seen` is scratch: with room for the
+// numbers of the list's variables the work is linear.
+pub fn copy<S: Source>(
+    source: &S,
+    k: u16,
+    seen: &mut [u32],
+    memory: &mut [TypeNode],
+    used: usize,
+) -> Option<Made>
     requires sound { ⌜ Sound (graph (now memory) used) ⌝ }
     requires room { ⌜ used + length (list (now source) k) ≤ length (now memory) ⌝ }
     requires small { ⌜ used + length (list (now source) k) ≤ 65536 ⌝ }
@@ -94,8 +143,11 @@ pub fn copy<S: Source>(source: &S, k: u16, memory: &mut [TypeNode], used: usize)
     let by = used as u16;
     let mut i = 0;
     while i < n {
-        memory[used + i as usize] = fresh(source, k, i, by);
+        memory[used + i as usize] = fresh(source, k, i, by, seen);
         i += 1;
     }
-    Some(Made { node: by + (n - 1), used: used + n as usize })
+    Some(Made {
+        node: by + (n - 1),
+        used: used + n as usize,
+    })
 }
