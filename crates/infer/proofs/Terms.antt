@@ -19,6 +19,7 @@ use Rattle.infer.specs.declared.Leaf.{Leaf}
 use Rattle.infer.specs.declared.Leaf.the-variants.{Nothing, Variable, Primitive, Reference}
 use Rattle.infer.specs.Typing.{size, Typing}
 use Rattle.infer.specs.Passes.{types, Scoped, Of-leaf, Of-call, Of-arrow, Gives, Typed, Untyped}
+use Rattle.infer.proofs.Prefixes.{IsLeaf}
 use Rattle.infer.proofs.Typings.{size-application, some-node, typing-same}
 
 -- the types of what is in scope
@@ -51,13 +52,6 @@ module _ (E K : Lists) where
 
   pub no-variable : (ns : List Node) (xs : List ℕ) (k : ℕ) → length xs ≤ k → Never ns (Of-leaf E K xs (Variable k))
   no-variable ns xs k h v τ s d = omega (arith, d .0, length-map (reverse xs) v, length-reverse xs)
-
-  -- which term a leaf is
-  abbrev pub IsLeaf : Term → Leaf → Type 0
-  IsLeaf t Nothing = ⊥
-  IsLeaf t (Variable k) = t ≡ variable k
-  IsLeaf t (Primitive k) = t ≡ primitive k
-  IsLeaf t (Reference k) = t ≡ reference k
 
   -- a term of one node, whose typings are what the leaf allows
   record Alone (xs : List ℕ) (l : Leaf) (t : Term) : Type 0 where
