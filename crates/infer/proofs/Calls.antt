@@ -26,11 +26,12 @@ told-arrow ns ms a b i sound ha hb ei e =
       longer = omega arith;
       inside = omega arith;
       back = λ v s. (pushed-pop ns ms (Branch 2 a b) e v s, pushed-last ns ms (Branch 2 a b) e v i ei s);
-      onto = λ v τ s t.
-        (upd v i τ,
+      onto = λ v τ s t. (
+        upd v i τ,
         (λ k h. upd-below v i τ k (omega arith)),
         pushed-onto ns ms (Branch 2 a b) e v i τ ei sound s (upd-same v i τ ∙ t ∙ ap₂ arrow (sym (upd-below v i τ a (omega arith))) (sym (upd-below v i τ b (omega arith)))),
-        upd-same v i τ);
+        upd-same v i τ,
+      );
     }
 
 -- a call: a result r, and a function type h from y to r, that is to be the type of g
@@ -66,9 +67,9 @@ module _ (ns n1 n2 : List Node) (g y r h : ℕ) (sound : Sound ns) (hg : g < len
         longer = omega arith;
         inside = omega arith;
         back = λ v s.
-          (let j = k .back v s tt in
-          let s1 = pushed-pop n1 n2 (Branch 2 y r) e2 v (j .0) in
-          (pushed-pop ns n1 Var e1 v s1, j .1 ∙ pushed-last n1 n2 (Branch 2 y r) e2 v h eh (j .0)));
+            (let j = k .back v s tt in
+            let s1 = pushed-pop n1 n2 (Branch 2 y r) e2 v (j .0) in
+            (pushed-pop ns n1 Var e1 v s1, j .1 ∙ pushed-last n1 n2 (Branch 2 y r) e2 v h eh (j .0)));
         onto = λ v τ s t. (let c = call-onto v τ s t in (c .0, c .1, k .onto (c .0) (c .2) (c .3) .0, c .4));
       }
 

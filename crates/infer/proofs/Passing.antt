@@ -83,8 +83,8 @@ module _ (E K : Lists) (ts : List TermNode) (i : ℕ) (xs ps : List ℕ) (us : L
           longer = omega (arith, p .needed);
           inside = from-first ps i (m .node) fits (λ a. a < m .used) (i + 1) (omega (arith, lg, p .told .inside)) (λ j h k. absurd (omega arith));
           typed = λ t st.
-            (let is = opens ts i t (Single l) (s .1) st in
-            (omega (arith, leaf-size t l is), typed-leaf E K (graph us n) (graph ws (m .used)) xs (set ps i (m .node)) i (m .node) l t is (written ps i (m .node) fits) (p .told)));
+              (let is = opens ts i t (Single l) (s .1) st in
+              (omega (arith, leaf-size t l is), typed-leaf E K (graph us n) (graph ws (m .used)) xs (set ps i (m .node)) i (m .node) l t is (written ps i (m .node) fits) (p .told)));
         }
 
   -- an abstraction, whose binder is the graph node n
@@ -105,17 +105,17 @@ module _ (E K : Lists) (ts : List TermNode) (i : ℕ) (xs ps : List ℕ) (us : L
     body-scoped =
         subst (λ (zs : List ℕ). Scoped zs (n + 1)) (sym ey)
         (λ k h. ⊎-elim
-          (λ (lt : k < length xs). rw (getD-append-left xs (n ∷ []) 0 k lt) (let x = scoped k lt in omega arith))
-          (λ (ge : length xs ≤ k). let q : length xs ≡ k = omega (arith, length-push xs n) in rw (getD-push xs n 0 k q) (omega arith))
-          (cases-lt k (length xs)))
+        (λ (lt : k < length xs). rw (getD-append-left xs (n ∷ []) 0 k lt) (let x = scoped k lt in omega arith))
+        (λ (ge : length xs ≤ k). let q : length xs ≡ k = omega (arith, length-push xs n) in rw (getD-push xs n 0 k q) (omega arith))
+        (cases-lt k (length xs)))
 
     pub clash-body : Clashes E K ts (i + 1) ys (set us n zero-node) (n + 1) → Clashes E K ts i xs us n
     clash-body c =
         record {
           untyped = λ t st.
-            (let o = opens ts i t Abstraction (s .1) st in
-            subst (Untyped E K (graph us n) xs i) (sym (o .1))
-            (untyped-abstraction E K (graph us n) (graph (set us n zero-node) (n + 1)) xs ys i (o .0) n sound scoped′ (sym long) grown ey (c .untyped (o .0) (o .2))));
+              (let o = opens ts i t Abstraction (s .1) st in
+              subst (Untyped E K (graph us n) xs i) (sym (o .1))
+              (untyped-abstraction E K (graph us n) (graph (set us n zero-node) (n + 1)) xs ys i (o .0) n sound scoped′ (sym long) grown ey (c .untyped (o .0) (o .2))));
         }
 
     pub find-abstraction : (zs xs′ qs : List ℕ) (ws vs : List TypeNode) (f : Found) (a : ℕ) → Finds E K ts (i + 1) ys zs ps qs (set us n zero-node) ws (n + 1) f → i < length qs → xs′ ≡ xs → a ≡ f .used → Told (graph ws (f .used)) (graph vs (f .used + 1)) a (Of-arrow n (f .node)) → Finds E K ts i xs xs′ ps (set qs i a) us vs n record { node = a; next = f .next; used = f .used + 1 }
@@ -131,12 +131,13 @@ module _ (E K : Lists) (ts : List TermNode) (i : ℕ) (xs ps : List ℕ) (us : L
           longer = omega (arith, p .longer);
           inside = from-first qs i a fits (λ b. b < f .used + 1) (f .next) (omega arith) (λ j h k. let x = p .inside j h k in omega arith);
           typed = λ t st.
-            (let o = opens ts i t Abstraction (s .1) st in
-            let b = p .typed (o .0) (o .2) in
-            (b .0 ∙ (let z : i + 1 + size (o .0) ≡ i + size (abstraction (o .0)) = omega arith in z) ∙ ap (λ (u : Term). i + size u) (sym (o .1)),
-            subst (Typed E K (graph us n) (graph vs (f .used + 1)) xs (set qs i a) i) (sym (o .1))
-            (typed-abstraction E K (graph us n) (graph (set us n zero-node) (n + 1)) xs ys i (o .0) n sound scoped′ (sym long) grown ey (graph ws (f .used)) (graph vs (f .used + 1)) qs (set qs i a) a (b .1)
-              (subst (λ (m : ℕ). Told (graph ws (f .used)) (graph vs (f .used + 1)) a (Of-arrow n m)) (p .node) q) (written qs i a fits) (above qs i a fits))));
+              (let o = opens ts i t Abstraction (s .1) st in
+              let b = p .typed (o .0) (o .2) in (
+                b .0 ∙ (let z : i + 1 + size (o .0) ≡ i + size (abstraction (o .0)) = omega arith in z) ∙ ap (λ (u : Term). i + size u) (sym (o .1)),
+                subst (Typed E K (graph us n) (graph vs (f .used + 1)) xs (set qs i a) i) (sym (o .1))
+                    (typed-abstraction E K (graph us n) (graph (set us n zero-node) (n + 1)) xs ys i (o .0) n sound scoped′ (sym long) grown ey (graph ws (f .used)) (graph vs (f .used + 1)) qs (set qs i a) a (b .1)
+                    (subst (λ (m : ℕ). Told (graph ws (f .used)) (graph vs (f .used + 1)) a (Of-arrow n m)) (p .node) q) (written qs i a fits) (above qs i a fits)),
+              ));
         }
 
   -- an application
@@ -151,8 +152,8 @@ module _ (E K : Lists) (ts : List TermNode) (i : ℕ) (xs ps : List ℕ) (us : L
     clash-function c =
         record {
           untyped = λ t st.
-            (let o = opens ts i t Application (s .1) st in
-            subst (Untyped E K (graph us n) xs i) (sym (o .2)) (untyped-function E K (graph us n) xs i (o .0) (o .1) (c .untyped (o .0) (o .3))));
+              (let o = opens ts i t Application (s .1) st in
+              subst (Untyped E K (graph us n) xs i) (sym (o .2)) (untyped-function E K (graph us n) xs i (o .0) (o .1) (c .untyped (o .0) (o .3))));
         }
 
     module _ (ys qs : List ℕ) (ws : List TypeNode) (f : Found) (p : Finds E K ts (i + 1) xs ys ps qs us ws n f) where
@@ -167,11 +168,11 @@ module _ (E K : Lists) (ts : List TermNode) (i : ℕ) (xs ps : List ℕ) (us : L
       clash-argument c =
           record {
             untyped = λ t st.
-              (let o = opens ts i t Application (s .1) st in
-              let b = function t o in
-              let a = c .untyped (o .1) (b .1) in
-              subst (Untyped E K (graph us n) xs i) (sym (o .2))
-              (untyped-argument E K (graph us n) xs i (o .0) (o .1) (graph ws (f .used)) qs scoped′ (b .0)
+                (let o = opens ts i t Application (s .1) st in
+                let b = function t o in
+                let a = c .untyped (o .1) (b .1) in
+                subst (Untyped E K (graph us n) xs i) (sym (o .2))
+                (untyped-argument E K (graph us n) xs i (o .0) (o .1) (graph ws (f .used)) qs scoped′ (b .0)
                 (subst (λ (j : ℕ). Untyped E K (graph ws (f .used)) xs j (o .1)) (b .2) (subst (λ (e : List ℕ). Untyped E K (graph ws (f .used)) e (f .next) (o .1)) (p .scope) a))));
           }
 
@@ -192,10 +193,11 @@ module _ (E K : Lists) (ts : List TermNode) (i : ℕ) (xs ps : List ℕ) (us : L
         argument : (t : Term) (o : Opens ts i t Application) → (x .next ≡ i + 1 + size (o .0) + size (o .1)) × Typed E K (graph ws (f .used)) (graph vs (x .used)) xs rs (i + 1 + size (o .0)) (o .1) × ((j : ℕ) → j < i + 1 + size (o .0) → getD rs j 0 ≡ getD qs j 0)
         argument t o =
             let b = function t o in
-            let a = q .typed (o .1) (b .1) in
-            (a .0 ∙ ap (λ (j : ℕ). j + size (o .1)) (b .2),
-            subst (λ (j : ℕ). Typed E K (graph ws (f .used)) (graph vs (x .used)) xs rs j (o .1)) (b .2) (subst (λ (e : List ℕ). Typed E K (graph ws (f .used)) (graph vs (x .used)) e rs (f .next) (o .1)) (p .scope) (a .1)),
-            λ j h. q .older j (omega (arith, b .2)))
+            let a = q .typed (o .1) (b .1) in (
+              a .0 ∙ ap (λ (j : ℕ). j + size (o .1)) (b .2),
+              subst (λ (j : ℕ). Typed E K (graph ws (f .used)) (graph vs (x .used)) xs rs j (o .1)) (b .2) (subst (λ (e : List ℕ). Typed E K (graph ws (f .used)) (graph vs (x .used)) e rs (f .next) (o .1)) (p .scope) (a .1)),
+              λ j h. q .older j (omega (arith, b .2)),
+            )
 
         -- what the call asks, by the nodes that stand in rs
         by-nodes : (P : ℕ → ℕ → Type 0) (m : ℕ) → f .next ≡ m → P (f .node) (x .node) → P (getD rs (i + 1) 0) (getD rs m 0)
@@ -205,11 +207,11 @@ module _ (E K : Lists) (ts : List TermNode) (i : ℕ) (xs ps : List ℕ) (us : L
         clash-call r =
             record {
               untyped = λ t st.
-                (let o = opens ts i t Application (s .1) st in
-                let b = function t o in
-                let a = argument t o in
-                subst (Untyped E K (graph us n) xs i) (sym (o .2))
-                (untyped-call E K (graph us n) xs i (o .0) (o .1) (graph ws (f .used)) qs scoped′ (b .0) (graph vs (x .used)) rs (a .1) (a .2)
+                  (let o = opens ts i t Application (s .1) st in
+                  let b = function t o in
+                  let a = argument t o in
+                  subst (Untyped E K (graph us n) xs i) (sym (o .2))
+                  (untyped-call E K (graph us n) xs i (o .0) (o .1) (graph ws (f .used)) qs scoped′ (b .0) (graph vs (x .used)) rs (a .1) (a .2)
                   (by-nodes (λ j k. Never (graph vs (x .used)) (Of-call j k)) (i + 1 + size (o .0)) (b .2) (r .never))));
             }
 
@@ -226,18 +228,19 @@ module _ (E K : Lists) (ts : List TermNode) (i : ℕ) (xs ps : List ℕ) (us : L
               sound = r .sound;
               longer = omega (arith, p .longer, q .longer);
               inside = from-first rs i a fits (λ b. b < x .used + 2) (x .next) (omega (arith, lg, r .inside))
-                (λ j h k. ⊎-elim
+                  (λ j h k. ⊎-elim
                   (λ (c : j < f .next). rw (q .older j c) (let y = p .inside j h c in omega (arith, q .longer)))
                   (λ (c : f .next ≤ j). let y = q .inside j c k in omega arith)
                   (cases-lt j (f .next)));
               typed = λ t st.
-                (let o = opens ts i t Application (s .1) st in
-                let b = function t o in
-                let c = argument t o in
-                (c .0 ∙ (let z : i + 1 + size (o .0) + size (o .1) ≡ i + size (application (o .0) (o .1)) = omega (arith, size-application (o .0) (o .1)) in z) ∙ ap (λ (u : Term). i + size u) (sym (o .2)),
-                subst (Typed E K (graph us n) (graph os (x .used + 2)) xs (set rs i a) i) (sym (o .2))
-                (typed-application E K (graph us n) xs i (o .0) (o .1) (graph ws (f .used)) qs scoped′ (b .0) (graph vs (x .used)) rs (c .1) (c .2) (graph os (x .used + 2)) (set rs i a) a
-                  (by-nodes (λ j k. Told (graph vs (x .used)) (graph os (x .used + 2)) a (Of-call j k)) (i + 1 + size (o .0)) (b .2) r) (written rs i a fits) (above rs i a fits))));
+                  (let o = opens ts i t Application (s .1) st in
+                  let b = function t o in
+                  let c = argument t o in (
+                    c .0 ∙ (let z : i + 1 + size (o .0) + size (o .1) ≡ i + size (application (o .0) (o .1)) = omega (arith, size-application (o .0) (o .1)) in z) ∙ ap (λ (u : Term). i + size u) (sym (o .2)),
+                    subst (Typed E K (graph us n) (graph os (x .used + 2)) xs (set rs i a) i) (sym (o .2))
+                        (typed-application E K (graph us n) xs i (o .0) (o .1) (graph ws (f .used)) qs scoped′ (b .0) (graph vs (x .used)) rs (c .1) (c .2) (graph os (x .used + 2)) (set rs i a) a
+                        (by-nodes (λ j k. Told (graph vs (x .used)) (graph os (x .used + 2)) a (Of-call j k)) (i + 1 + size (o .0)) (b .2) r) (written rs i a fits) (above rs i a fits)),
+                  ));
             }
 
 -- what is in scope stands in the first d numbers

@@ -99,28 +99,32 @@ module _ (E K : Lists) where
         let l = pushed-length ns n1 Var e1 in
         let nb = some-node b in
         let parts : (P : ℕ → Type 0) → P i → ((j : ℕ) → i + 1 ≤ j → j < i + 1 + size b → P j) → (j : ℕ) → i ≤ j → j < i + size (abstraction b) → P j =
-          (λ P first rest j h k. ⊎-elim (λ (c : i < j). rest j (omega arith) (omega arith)) (λ (c : j ≤ i). let e : i ≡ j = omega arith in subst P e first) (cases-lt i j)) in
+        (λ P first rest j h k. ⊎-elim (λ (c : i < j). rest j (omega arith) (omega arith)) (λ (c : j ≤ i). let e : i ≡ j = omega arith in subst P e first) (cases-lt i j)) in
         record {
           sound = q .sound;
           longer = omega (arith, p .longer, q .longer);
           inside = parts (λ j. getD rs j 0 < length ms) (rw here (q .inside)) (λ j h k. rw (above j (omega arith)) (let x = p .inside j h k in omega (arith, q .longer)));
           back = λ v s.
-            (let g = q .back v s in
-            let h = p .back v (g .0) in
-            (pushed-pop ns n1 Var e1 v (h .0),
-            (v a,
-            ap v here ∙ g .1 ∙ ap (λ (j : ℕ). arrow (v a) (v j)) (sym (above (i + 1) (omega arith))),
-            typing-same E K b (v a ∷ types v xs) (λ j. v (getD qs j 0)) (λ j. v (getD rs j 0)) (i + 1) (λ j x y. ap v (sym (above j (omega arith)))) (rw (← (types-push v xs ys a ey)) (h .1)))));
+              (let g = q .back v s in
+              let h = p .back v (g .0) in (
+                pushed-pop ns n1 Var e1 v (h .0),
+                (
+                  v a,
+                  ap v here ∙ g .1 ∙ ap (λ (j : ℕ). arrow (v a) (v j)) (sym (above (i + 1) (omega arith))),
+                  typing-same E K b (v a ∷ types v xs) (λ j. v (getD qs j 0)) (λ j. v (getD rs j 0)) (i + 1) (λ j x y. ap v (sym (above j (omega arith)))) (rw (← (types-push v xs ys a ey)) (h .1)),
+                ),
+              ));
           onto = λ v T s d.
-            (let f = bound v T s d in
-            let g = p .onto (upd v a (d .0)) T (f .1) (f .2) in
-            let wa : g .0 a ≡ d .0 = g .1 a (omega arith) ∙ upd-same v a (d .0) in
-            let wb : g .0 (getD qs (i + 1) 0) ≡ T (i + 1) = g .3 (i + 1) (omega arith) (omega arith) in
-            let h = q .onto (g .0) (T i) (g .2) (d .1 ∙ ap₂ arrow (sym wa) (sym wb)) in
-            (h .0,
-            (λ k lt. h .1 k (omega (arith, p .longer)) ∙ g .1 k (omega arith) ∙ f .0 k lt),
-            h .2,
-            parts (λ j. h .0 (getD rs j 0) ≡ T j) (ap (h .0) here ∙ h .3) (λ j x y. ap (h .0) (above j (omega arith)) ∙ h .1 (getD qs j 0) (p .inside j x y) ∙ g .3 j x y)));
+              (let f = bound v T s d in
+              let g = p .onto (upd v a (d .0)) T (f .1) (f .2) in
+              let wa : g .0 a ≡ d .0 = g .1 a (omega arith) ∙ upd-same v a (d .0) in
+              let wb : g .0 (getD qs (i + 1) 0) ≡ T (i + 1) = g .3 (i + 1) (omega arith) (omega arith) in
+              let h = q .onto (g .0) (T i) (g .2) (d .1 ∙ ap₂ arrow (sym wa) (sym wb)) in (
+                h .0,
+                (λ k lt. h .1 k (omega (arith, p .longer)) ∙ g .1 k (omega arith) ∙ f .0 k lt),
+                h .2,
+                parts (λ j. h .0 (getD rs j 0) ≡ T j) (ap (h .0) here ∙ h .3) (λ j x y. ap (h .0) (above j (omega arith)) ∙ h .1 (getD qs j 0) (p .inside j x y) ∙ g .3 j x y),
+              ));
         }
 
   -- an application: the function at the places from i + 1, the argument from m
@@ -145,15 +149,16 @@ module _ (E K : Lists) where
             let g = function v T s d in
             let o = q .onto (g .0) T (g .2) (g .4) in
             let gives : Gives (o .0) rs T (i + 1) (i + 1 + size f + size x) =
-              (λ j h k. ⊎-elim
-                (λ (c : j < i + 1 + size f). ap (o .0) (older j c) ∙ o .1 (getD qs j 0) (p .inside j h c) ∙ g .3 j h c)
-                (λ (c : i + 1 + size f ≤ j). o .3 j c k)
-                (cases-lt j (i + 1 + size f))) in
-            (o .0,
-            (λ k lt. o .1 k (omega (arith, p .longer)) ∙ g .1 k lt),
-            o .2,
-            gives,
-            gives (i + 1) (omega arith) (omega arith) ∙ d .0 ∙ ap (λ (α : Ty). arrow α (T i)) (sym (gives (i + 1 + size f) (omega arith) (omega arith))))
+            (λ j h k. ⊎-elim
+            (λ (c : j < i + 1 + size f). ap (o .0) (older j c) ∙ o .1 (getD qs j 0) (p .inside j h c) ∙ g .3 j h c)
+            (λ (c : i + 1 + size f ≤ j). o .3 j c k)
+            (cases-lt j (i + 1 + size f))) in (
+              o .0,
+              (λ k lt. o .1 k (omega (arith, p .longer)) ∙ g .1 k lt),
+              o .2,
+              gives,
+              gives (i + 1) (omega arith) (omega arith) ∙ d .0 ∙ ap (λ (α : Ty). arrow α (T i)) (sym (gives (i + 1 + size f) (omega arith) (omega arith))),
+            )
 
         pub untyped-call : Never n2 (Of-call (getD rs (i + 1) 0) (getD rs (i + 1 + size f) 0)) → Untyped E K ns xs i (application f x)
         untyped-call none v T s d = let w = both v T s d in none (w .0) (T i) (w .2) (w .4)
@@ -164,30 +169,34 @@ module _ (E K : Lists) where
             let nx = some-node x in
             let z = size-application f x in
             let parts : (P : ℕ → Type 0) → P i → ((j : ℕ) → i + 1 ≤ j → j < i + 1 + size f + size x → P j) → (j : ℕ) → i ≤ j → j < i + size (application f x) → P j =
-              (λ P first rest j h k. ⊎-elim (λ (c : i < j). rest j (omega arith) (omega arith)) (λ (c : j ≤ i). let e : i ≡ j = omega arith in subst P e first) (cases-lt i j)) in
+            (λ P first rest j h k. ⊎-elim (λ (c : i < j). rest j (omega arith) (omega arith)) (λ (c : j ≤ i). let e : i ≡ j = omega arith in subst P e first) (cases-lt i j)) in
             let within : (j : ℕ) → i + 1 ≤ j → j < i + 1 + size f + size x → getD rs j 0 < length n2 =
-              (λ j h k. ⊎-elim
-                (λ (c : j < i + 1 + size f). rw (older j c) (let y = p .inside j h c in omega (arith, q .longer)))
-                (λ (c : i + 1 + size f ≤ j). q .inside j c k)
-                (cases-lt j (i + 1 + size f))) in
+            (λ j h k. ⊎-elim
+            (λ (c : j < i + 1 + size f). rw (older j c) (let y = p .inside j h c in omega (arith, q .longer)))
+            (λ (c : i + 1 + size f ≤ j). q .inside j c k)
+            (cases-lt j (i + 1 + size f))) in
             record {
               sound = r .sound;
               longer = omega (arith, p .longer, q .longer, r .longer);
               inside = parts (λ j. getD os j 0 < length ms) (rw here (r .inside)) (λ j h k. rw (above j (omega arith)) (let y = within j h k in omega (arith, r .longer)));
               back = λ v s.
-                (let a = r .back v s in
-                let b = q .back v (a .0) in
-                let c = p .back v (b .0) in
-                let up : (j : ℕ) → i < j → v (getD os j 0) ≡ v (getD rs j 0) = (λ j h. ap v (above j h)) in
-                (c .0,
-                (up (i + 1) (omega arith) ∙ a .1 ∙ ap₂ arrow (sym (up (i + 1 + size f) (omega arith))) (ap v (sym here)),
-                typing-same E K f (types v xs) (λ j. v (getD qs j 0)) (λ j. v (getD os j 0)) (i + 1) (λ j h k. ap v (sym (older j k)) ∙ sym (up j (omega arith))) (c .1),
-                typing-same E K x (types v xs) (λ j. v (getD rs j 0)) (λ j. v (getD os j 0)) (i + 1 + size f) (λ j h k. sym (up j (omega arith))) (b .1))));
+                  (let a = r .back v s in
+                  let b = q .back v (a .0) in
+                  let c = p .back v (b .0) in
+                  let up : (j : ℕ) → i < j → v (getD os j 0) ≡ v (getD rs j 0) = (λ j h. ap v (above j h)) in (
+                    c .0,
+                    (
+                      up (i + 1) (omega arith) ∙ a .1 ∙ ap₂ arrow (sym (up (i + 1 + size f) (omega arith))) (ap v (sym here)),
+                      typing-same E K f (types v xs) (λ j. v (getD qs j 0)) (λ j. v (getD os j 0)) (i + 1) (λ j h k. ap v (sym (older j k)) ∙ sym (up j (omega arith))) (c .1),
+                      typing-same E K x (types v xs) (λ j. v (getD rs j 0)) (λ j. v (getD os j 0)) (i + 1 + size f) (λ j h k. sym (up j (omega arith))) (b .1),
+                    ),
+                  ));
               onto = λ v T s d.
-                (let w = both v T s d in
-                let k = r .onto (w .0) (T i) (w .2) (w .4) in
-                (k .0,
-                (λ m lt. k .1 m (omega (arith, p .longer, q .longer)) ∙ w .1 m lt),
-                k .2,
-                parts (λ j. k .0 (getD os j 0) ≡ T j) (ap (k .0) here ∙ k .3) (λ j h l. ap (k .0) (above j (omega arith)) ∙ k .1 (getD rs j 0) (within j h l) ∙ w .3 j h l)));
+                  (let w = both v T s d in
+                  let k = r .onto (w .0) (T i) (w .2) (w .4) in (
+                    k .0,
+                    (λ m lt. k .1 m (omega (arith, p .longer, q .longer)) ∙ w .1 m lt),
+                    k .2,
+                    parts (λ j. k .0 (getD os j 0) ≡ T j) (ap (k .0) here ∙ k .3) (λ j h l. ap (k .0) (above j (omega arith)) ∙ k .1 (getD rs j 0) (within j h l) ∙ w .3 j h l),
+                  ));
             }

@@ -32,20 +32,22 @@ module _ (E K : Lists) where
   pub typing-same : (t : Term) (Γ : List Ty) (T S : ℕ → Ty) (i : ℕ) → Same T S i (i + size t) → Typing E K Γ t T i → Typing E K Γ t S i
   typing-same (variable n) Γ T S i e d = (d .0, d .1 ∙ e i (omega arith) (omega arith))
   typing-same (abstraction b) Γ T S i e d =
-      let n = some-node b in
-      (d .0,
-      sym (e i (omega arith) (omega arith)) ∙ d .1 ∙ ap (arrow (d .0)) (e (i + 1) (omega arith) (omega arith)),
-      typing-same b (d .0 ∷ Γ) T S (i + 1) (λ p h k. e p (omega arith) (omega arith)) (d .2))
+      let n = some-node b in (
+        d .0,
+        sym (e i (omega arith) (omega arith)) ∙ d .1 ∙ ap (arrow (d .0)) (e (i + 1) (omega arith) (omega arith)),
+        typing-same b (d .0 ∷ Γ) T S (i + 1) (λ p h k. e p (omega arith) (omega arith)) (d .2),
+      )
   typing-same (application f a) Γ T S i e d =
       let n = some-node f in
       let m = some-node a in
       let z = size-application f a in
       let ei : T i ≡ S i = e i (omega arith) (omega arith) in
       let ef : T (i + 1) ≡ S (i + 1) = e (i + 1) (omega arith) (omega arith) in
-      let ea : T (i + 1 + size f) ≡ S (i + 1 + size f) = e (i + 1 + size f) (omega arith) (omega arith) in
-      (sym ef ∙ d .0 ∙ ap₂ arrow ea ei,
-      typing-same f Γ T S (i + 1) (λ p h k. e p (omega arith) (omega arith)) (d .1),
-      typing-same a Γ T S (i + 1 + size f) (λ p h k. e p (omega arith) (omega arith)) (d .2))
+      let ea : T (i + 1 + size f) ≡ S (i + 1 + size f) = e (i + 1 + size f) (omega arith) (omega arith) in (
+        sym ef ∙ d .0 ∙ ap₂ arrow ea ei,
+        typing-same f Γ T S (i + 1) (λ p h k. e p (omega arith) (omega arith)) (d .1),
+        typing-same a Γ T S (i + 1 + size f) (λ p h k. e p (omega arith) (omega arith)) (d .2),
+      )
   typing-same (primitive k) Γ T S i e d = subst (OfList (E k)) (e i (omega arith) (omega arith)) d
   typing-same (reference n) Γ T S i e d = subst (OfList (K n)) (e i (omega arith) (omega arith)) d
 
@@ -89,10 +91,11 @@ module _ (E K : Lists) where
       let n = some-node b in
       let s = type-typing b (d .0 ∷ Γ) (d .1) (i + 1) (d .3) in
       let T : ℕ → Ty = put i τ (s .0) in
-      let e : Same (s .0) T (i + 1) (i + 1 + size b) = put-above i (i + 1) (i + 1 + size b) τ (s .0) (omega arith) in
-      (T,
-      (d .0, put-here i τ (s .0) ∙ d .2 ∙ ap (arrow (d .0)) (sym (s .2) ∙ e (i + 1) (omega arith) (omega arith)), typing-same b (d .0 ∷ Γ) (s .0) T (i + 1) e (s .1)),
-      put-here i τ (s .0))
+      let e : Same (s .0) T (i + 1) (i + 1 + size b) = put-above i (i + 1) (i + 1 + size b) τ (s .0) (omega arith) in (
+        T,
+        (d .0, put-here i τ (s .0) ∙ d .2 ∙ ap (arrow (d .0)) (sym (s .2) ∙ e (i + 1) (omega arith) (omega arith)), typing-same b (d .0 ∷ Γ) (s .0) T (i + 1) e (s .1)),
+        put-here i τ (s .0),
+      )
   type-typing (application f a) Γ τ i d =
       let m : ℕ = i + 1 + size f in
       let nf = some-node f in
@@ -102,11 +105,14 @@ module _ (E K : Lists) where
       let J : ℕ → Ty = join m (s .0) (r .0) in
       let T : ℕ → Ty = put i τ J in
       let ef : Same (s .0) T (i + 1) m = (λ p h k. join-below m (i + 1) (s .0) (r .0) p h k ∙ put-above i (i + 1) m τ J (omega arith) p h k) in
-      let ea : Same (r .0) T m (m + size a) = (λ p h k. join-above m (m + size a) (s .0) (r .0) p h k ∙ put-above i m (m + size a) τ J (omega arith) p h k) in
-      (T,
-      (sym (ef (i + 1) (omega arith) (omega arith)) ∙ s .2 ∙ ap₂ arrow (sym (r .2) ∙ ea m (omega arith) (omega arith)) (sym (put-here i τ J)),
-      typing-same f Γ (s .0) T (i + 1) ef (s .1),
-      typing-same a Γ (r .0) T m ea (r .1)),
-      put-here i τ J)
+      let ea : Same (r .0) T m (m + size a) = (λ p h k. join-above m (m + size a) (s .0) (r .0) p h k ∙ put-above i m (m + size a) τ J (omega arith) p h k) in (
+        T,
+        (
+          sym (ef (i + 1) (omega arith) (omega arith)) ∙ s .2 ∙ ap₂ arrow (sym (r .2) ∙ ea m (omega arith) (omega arith)) (sym (put-here i τ J)),
+          typing-same f Γ (s .0) T (i + 1) ef (s .1),
+          typing-same a Γ (r .0) T m ea (r .1),
+        ),
+        put-here i τ J,
+      )
   type-typing (primitive k) Γ τ i d = ((λ p. τ), d, refl)
   type-typing (reference n) Γ τ i d = ((λ p. τ), d, refl)

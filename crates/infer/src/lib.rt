@@ -71,7 +71,11 @@ fn close(memory: &mut [TypeNode], used: usize, a: u16, b: u16) -> u16
     ensures is { λ r. ⌜ r ≡ used ⌝ }
     ensures told { λ r. ⌜ Told (graph (now (memory .entry)) used) (graph (now (memory .exit)) (used + 1)) r (Of-arrow a b) ⌝ }
 {
-    memory[used] = TypeNode { kind: ARROW, left: a, right: b };
+    memory[used] = TypeNode {
+        kind: ARROW,
+        left: a,
+        right: b,
+    };
     used as u16
 }
 
@@ -86,11 +90,236 @@ fn call(memory: &mut [TypeNode], used: usize, function: u16, argument: u16) -> O
 {
     let result = used as u16;
     let whole = result + 1;
-    memory[used] = TypeNode { kind: VARIABLE, left: 0, right: 0 };
-    memory[used + 1] = TypeNode { kind: ARROW, left: argument, right: result };
+    memory[used] = TypeNode {
+        kind: VARIABLE,
+        left: 0,
+        right: 0,
+    };
+    memory[used + 1] = TypeNode {
+        kind: ARROW,
+        left: argument,
+        right: result,
+    };
     if unify(memory, used + 2, function, whole) {
         Some(result)
     } else {
         None
+    }
+}
+
+// The graph node of a term node without parts: a variable has its binder's node, a primitive or a reference a copy of
+// its own. The nodes of the binders in scope are the first `depth` of `binders`.
+fn place_leaf<E: Source, K: Source>(
+    entries: &E,
+    kept: &K,
+    leaf: Leaf,
+    binders: &[u32],
+    depth: usize,
+    seen: &mut [u32],
+    memory: &mut [TypeNode],
+    used: usize,
+) -> Option<Made>
+    requires sound { ⌜ Sound (graph (now memory) used) ⌝ }
+    requires fits { ⌜ used ≤ length (now memory) ⌝ }
+    requires room { ⌜ used + leaf-need (E·Source .list (now entries)) (K·Source .list (now kept)) leaf ≤ length (now memory) ⌝ }
+    requires small { ⌜ used + leaf-need (E·Source .list (now entries)) (K·Source .list (now kept)) leaf ≤ 65536 ⌝ }
+    requires deep { ⌜ depth ≤ length (now binders) ⌝ }
+    requires scoped { ⌜ Scoped (take depth (now binders)) used ⌝ }
+    ensures { λ r. ⌜ LeafPlaced (E·Source .list (now (entries .entry))) (K·Source .list (now (kept .entry))) (take depth (now (binders .entry))) leaf (now (memory .entry)) (now (memory .exit)) used r ⌝ }
+{
+    match leaf {
+        Leaf::Nothing => None,
+        Leaf::Variable(n) => {
+            let n = n as usize;
+            if n < depth {
+                Some(Made {
+                    node: binders[depth - 1 - n] as u16,
+                    used,
+                })
+            } else {
+                None
+            }
+        }
+        Leaf::Primitive(k) => copy(entries, k, seen, memory, used),
+        Leaf::Reference(n) => copy(kept, n, seen, memory, used),
+    }
+}
+
+// Builds the graph of the term at `at`, and records the graph node of each of its term nodes in `places`; none where the
+// term has no typing.
+fn pass<E: Source, K: Source>(
+    entries: &E,
+    kept: &K,
+    terms: &[TermNode],
+    at: usize,
+    binders: &mut [u32],
+    depth: usize,
+    places: &mut [u32],
+    seen: &mut [u32],
+    memory: &mut [TypeNode],
+    used: usize,
+) -> Option<Found>
+    requires sound { ⌜ Sound (graph (now memory) used) ⌝ }
+    requires room { ⌜ used + need (E·Source .list (now entries)) (K·Source .list (now kept)) (drop at (now terms)) ≤ length (now memory) ⌝ }
+    requires small { ⌜ used + need (E·Source .list (now entries)) (K·Source .list (now kept)) (drop at (now terms)) ≤ 65536 ⌝ }
+    requires inner { ⌜ depth + (length (now terms) - at) ≤ length (now binders) ⌝ }
+    requires placed { ⌜ length (now terms) ≤ length (now places) ⌝ }
+    requires scoped { ⌜ Scoped (take depth (now binders)) used ⌝ }
+    ensures { λ r. ⌜ Passed (E·Source .list (now (entries .entry))) (K·Source .list (now (kept .entry))) (now (terms .entry)) at (take depth (now (binders .entry))) (take depth (now (binders .exit))) (now (places .entry)) (now (places .exit)) (now (memory .entry)) (now (memory .exit)) used r ⌝ }
+{
+    if at >= terms.len() {
+        return None;
+    }
+    let next = at + 1;
+    match head_of(terms[at]) {
+        Head::Single(leaf) => match place_leaf(
+            entries,
+            kept,
+            leaf,
+            binders,
+            depth,
+            seen,
+            memory,
+            used,
+        ) {
+            Some(made) => {
+                places[at] = made.node as u32;
+                Some(Found {
+                    node: made.node,
+                    next,
+                    used: made.used,
+                })
+            }
+            None => None,
+        },
+        Head::Abstraction => {
+            memory[used] = TypeNode {
+                kind: VARIABLE,
+                left: 0,
+                right: 0,
+            };
+            binders[depth] = used as u32;
+            match pass(
+                entries,
+                kept,
+                terms,
+                next,
+                binders,
+                depth + 1,
+                places,
+                seen,
+                memory,
+                used + 1,
+            ) {
+                Some(body) => {
+                    let node = close(memory, body.used, used as u16, body.node);
+                    places[at] = node as u32;
+                    Some(Found {
+                        node,
+                        next: body.next,
+                        used: body.used + 1,
+                    })
+                }
+                None => None,
+            }
+        }
+        Head::Application => match pass(
+            entries,
+            kept,
+            terms,
+            next,
+            binders,
+            depth,
+            places,
+            seen,
+            memory,
+            used,
+        ) {
+            Some(f) => match pass(
+                entries,
+                kept,
+                terms,
+                f.next,
+                binders,
+                depth,
+                places,
+                seen,
+                memory,
+                f.used,
+            ) {
+                Some(x) => match call(memory, x.used, f.node, x.node) {
+                    Some(node) => {
+                        places[at] = node as u32;
+                        Some(Found {
+                            node,
+                            next: x.next,
+                            used: x.used + 2,
+                        })
+                    }
+                    None => None,
+                },
+                None => None,
+            },
+            None => None,
+        },
+    }
+}
+
+// How many graph records a term node needs.
+fn need_of<E: Source, K: Source>(entries: &E, kept: &K, node: TermNode) -> u16
+    ensures { λ r. ⌜ r ≡ head-need (E·Source .list (now (entries .entry))) (K·Source .list (now (kept .entry))) (head-of node) ⌝ }
+{
+    match head_of(node) {
+        Head::Abstraction => 2,
+        Head::Application => 2,
+        Head::Single(leaf) => match leaf {
+            Leaf::Nothing => 0,
+            Leaf::Variable(_) => 0,
+            Leaf::Primitive(k) => entries.nodes(k),
+            Leaf::Reference(n) => kept.nodes(n),
+        },
+    }
+}
+
+// How many graph records the term of these nodes needs.
+pub fn needed<E: Source, K: Source>(entries: &E, kept: &K, terms: &[TermNode]) -> usize
+    requires few { ⌜ length (now terms) ≤ 65536 ⌝ }
+    ensures { λ r. ⌜ r ≡ need (E·Source .list (now (entries .entry))) (K·Source .list (now (kept .entry))) (now (terms .entry)) ⌝ }
+{
+    let mut sum = 0;
+    let mut i = 0;
+    while i < terms.len() {
+        sum += need_of(entries, kept, terms[i]) as usize;
+        i += 1;
+    }
+    sum
+}
+
+// Builds the graph of a closed term from the start of the memory, and records the graph node of each term node in
+// `places`. It answers how many records are used, or none where the term has no type. `binders` and `seen` are scratch.
+pub fn infer<E: Source, K: Source>(
+    entries: &E,
+    kept: &K,
+    terms: &[TermNode],
+    binders: &mut [u32],
+    places: &mut [u32],
+    seen: &mut [u32],
+    memory: &mut [TypeNode],
+) -> Option<usize>
+    requires room { ⌜ need (E·Source .list (now entries)) (K·Source .list (now kept)) (now terms) ≤ length (now memory) ⌝ }
+    requires small { ⌜ need (E·Source .list (now entries)) (K·Source .list (now kept)) (now terms) ≤ 65536 ⌝ }
+    requires inner { ⌜ length (now terms) ≤ length (now binders) ⌝ }
+    requires placed { ⌜ length (now terms) ≤ length (now places) ⌝ }
+    ensures { λ r. ⌜ Answered (E·Source .list (now (entries .entry))) (K·Source .list (now (kept .entry))) (now (terms .entry)) (now (places .exit)) (now (memory .exit)) r ⌝ }
+{
+    match pass(entries, kept, terms, 0, binders, 0, places, seen, memory, 0) {
+        Some(found) => {
+            if found.next == terms.len() {
+                Some(found.used)
+            } else {
+                None
+            }
+        }
+        None => None,
     }
 }
