@@ -53,6 +53,13 @@ fn head_of(node: TermNode) -> Head
     }
 }
 
+// A graph node of any type.
+const UNKNOWN: TypeNode = TypeNode {
+    kind: VARIABLE,
+    left: 0,
+    right: 0,
+};
+
 // The graph node of a subterm, the place after it, and how many records of the memory are used then.
 #[derive(Clone, Copy)]
 pub struct Found {
@@ -90,11 +97,7 @@ fn call(memory: &mut [TypeNode], used: usize, function: u16, argument: u16) -> O
 {
     let result = used as u16;
     let whole = result + 1;
-    memory[used] = TypeNode {
-        kind: VARIABLE,
-        left: 0,
-        right: 0,
-    };
+    memory[used] = UNKNOWN;
     memory[used + 1] = TypeNode {
         kind: ARROW,
         left: argument,
@@ -172,34 +175,19 @@ fn pass<E: Source, K: Source>(
     }
     let next = at + 1;
     match head_of(terms[at]) {
-        Head::Single(leaf) => match place_leaf(
-            entries,
-            kept,
-            leaf,
-            binders,
-            depth,
-            seen,
-            memory,
-            used,
-        ) {
-            Some(made) => {
-                places[at] = made.node as u32;
-                Some(Found {
-                    node: made.node,
-                    next,
-                    used: made.used,
-                })
-            }
-            None => None,
-        },
+        Head::Single(leaf) => {
+            let made = place_leaf(entries, kept, leaf, binders, depth, seen, memory, used)?;
+            places[at] = made.node as u32;
+            Some(Found {
+                node: made.node,
+                next,
+                used: made.used,
+            })
+        }
         Head::Abstraction => {
-            memory[used] = TypeNode {
-                kind: VARIABLE,
-                left: 0,
-                right: 0,
-            };
+            memory[used] = UNKNOWN;
             binders[depth] = used as u32;
-            match pass(
+            let body = pass(
                 entries,
                 kept,
                 terms,
@@ -210,32 +198,29 @@ fn pass<E: Source, K: Source>(
                 seen,
                 memory,
                 used + 1,
-            ) {
-                Some(body) => {
-                    let node = close(memory, body.used, used as u16, body.node);
-                    places[at] = node as u32;
-                    Some(Found {
-                        node,
-                        next: body.next,
-                        used: body.used + 1,
-                    })
-                }
-                None => None,
-            }
+            )?;
+            let node = close(memory, body.used, used as u16, body.node);
+            places[at] = node as u32;
+            Some(Found {
+                node,
+                next: body.next,
+                used: body.used + 1,
+            })
         }
-        Head::Application => match pass(
-            entries,
-            kept,
-            terms,
-            next,
-            binders,
-            depth,
-            places,
-            seen,
-            memory,
-            used,
-        ) {
-            Some(f) => match pass(
+        Head::Application => {
+            let f = pass(
+                entries,
+                kept,
+                terms,
+                next,
+                binders,
+                depth,
+                places,
+                seen,
+                memory,
+                used,
+            )?;
+            let x = pass(
                 entries,
                 kept,
                 terms,
@@ -246,22 +231,15 @@ fn pass<E: Source, K: Source>(
                 seen,
                 memory,
                 f.used,
-            ) {
-                Some(x) => match call(memory, x.used, f.node, x.node) {
-                    Some(node) => {
-                        places[at] = node as u32;
-                        Some(Found {
-                            node,
-                            next: x.next,
-                            used: x.used + 2,
-                        })
-                    }
-                    None => None,
-                },
-                None => None,
-            },
-            None => None,
-        },
+            )?;
+            let node = call(memory, x.used, f.node, x.node)?;
+            places[at] = node as u32;
+            Some(Found {
+                node,
+                next: x.next,
+                used: x.used + 2,
+            })
+        }
     }
 }
 
@@ -312,14 +290,10 @@ pub fn infer<E: Source, K: Source>(
     requires placed { ⌜ length (now terms) ≤ length (now places) ⌝ }
     ensures { λ r. ⌜ Answered (E·Source .list (now (entries .entry))) (K·Source .list (now (kept .entry))) (now (terms .entry)) (now (places .exit)) (now (memory .exit)) r ⌝ }
 {
-    match pass(entries, kept, terms, 0, binders, 0, places, seen, memory, 0) {
-        Some(found) => {
-            if found.next == terms.len() {
-                Some(found.used)
-            } else {
-                None
-            }
-        }
-        None => None,
+    let found = pass(entries, kept, terms, 0, binders, 0, places, seen, memory, 0)?;
+    if found.next == terms.len() {
+        Some(found.used)
+    } else {
+        None
     }
 }

@@ -20,17 +20,17 @@ place-leaf-requires g t c κs =
     let r = need-at (g .E·Source .list (c .args .entries .now)) (g .K·Source .list (c .args .kept .now)) (c .args .terms .now) (c .args .at) (Single (c .in-Single .leaf)) s in
     record { sound = p .sound; fits = omega (arith, p .room); room = omega (arith, p .room); small = omega (arith, p .small); deep = omega (arith, p .inner); scoped = p .scoped }
 
-pub returns-in-Some : need.returns-in-Some
-returns-in-Some g t c =
+pub returns-in-Continue-made : need.returns-in-Continue-made
+returns-in-Continue-made g t c =
     let p = c .pre in
     let s : Starts (c .args .terms .now) (c .args .at) (Single (c .in-Single .leaf)) = (c .if-at-terms .left, sym (c .in-Single .ensures tt)) in
-    find-leaf _ _ _ _ _ _ _ _ (p .sound) (p .room) (p .scoped) _ s _ _ (omega (arith, p .placed)) (omega arith) (c .in-Some .ensures tt)
+    find-leaf _ _ _ _ _ _ _ _ (p .sound) (p .room) (p .scoped) _ s _ _ (omega (arith, p .placed)) (omega arith) (c .in-Continue-made .ensures tt)
 
-pub returns-in-None : need.returns-in-None
-returns-in-None g t c =
+pub returns-in-Break-made : need.returns-in-Break-made
+returns-in-Break-made g t c =
     let p = c .pre in
     let s : Starts (c .args .terms .now) (c .args .at) (Single (c .in-Single .leaf)) = (c .if-at-terms .left, sym (c .in-Single .ensures tt)) in
-    clash-leaf _ _ _ _ _ (c .args .places .now) (c .args .memory .now) (c .args .used) (p .sound) (p .room) (p .scoped) _ s (c .in-None .ensures tt)
+    rw (c .from-residual .ensures) (clash-leaf _ _ _ _ _ (c .args .places .now) (c .args .memory .now) (c .args .used) (p .sound) (p .room) (p .scoped) _ s (c .in-Break-made .ensures tt))
 
 pub index-memory-used : need.index-memory-used
 index-memory-used g t c =
@@ -80,26 +80,26 @@ pub close-node-requires : need.close-node-requires
 close-node-requires g t c κs =
     let p = c .pre in
     let s : Starts (c .args .terms .now) (c .args .at) Abstraction = (c .if-at-terms .left, sym (c .in-Abstraction .ensures tt)) in
-    let f = c .in-Some-pass .ensures tt in
+    let f = c .in-Continue-body .ensures tt in
     let r = need-at (g .E·Source .list (c .args .entries .now)) (g .K·Source .list (c .args .kept .now)) (c .args .terms .now) (c .args .at) Abstraction s in
     record { sound = f .sound; small = omega (arith, p .small, f .room); room = omega (arith, p .room, f .room, length-set (c .args .memory .now) (c .args .used) zero-node); first = omega (arith, f .longer); second = rw (f .node) (f .inside (c .args .at + 1) (omega arith) (f .forward)) }
 
-pub returns-in-Some-pass : need.returns-in-Some-pass
-returns-in-Some-pass g t c =
+pub returns-in-Continue-body : need.returns-in-Continue-body
+returns-in-Continue-body g t c =
     let p = c .pre in
     let s : Starts (c .args .terms .now) (c .args .at) Abstraction = (c .if-at-terms .left, sym (c .in-Abstraction .ensures tt)) in
     let deep : c .args .depth < length (c .args .binders .now) = omega (arith, p .inner, c .if-at-terms .left) in
     let ey = take-more-set (c .args .binders .now) (c .args .depth) (c .args .used) deep in
-    let f = c .in-Some-pass .ensures tt in
-    find-abstraction (g .E·Source .list (c .args .entries .now)) (g .K·Source .list (c .args .kept .now)) (c .args .terms .now) (c .args .at) (take (c .args .depth) (c .args .binders .now)) (c .args .places .now) (c .args .memory .now) (c .args .used) (p .sound) (p .room) (p .scoped) s _ ey _ _ _ _ _ (c .in-Some-pass .body) _ f (omega (arith, p .placed, c .if-at-terms .left)) (scope-less (c .pass .last .binders) (c .args .binders .now) (c .args .depth) (c .args .used) (f .scope)) (c .close-node .ensures .is) (c .close-node .ensures .told)
+    let f = c .in-Continue-body .ensures tt in
+    find-abstraction (g .E·Source .list (c .args .entries .now)) (g .K·Source .list (c .args .kept .now)) (c .args .terms .now) (c .args .at) (take (c .args .depth) (c .args .binders .now)) (c .args .places .now) (c .args .memory .now) (c .args .used) (p .sound) (p .room) (p .scoped) s _ ey _ _ _ _ _ (c .in-Continue-body .body) _ f (omega (arith, p .placed, c .if-at-terms .left)) (scope-less (c .pass .last .binders) (c .args .binders .now) (c .args .depth) (c .args .used) (f .scope)) (c .close-node .ensures .is) (c .close-node .ensures .told)
 
-pub returns-in-None-pass : need.returns-in-None-pass
-returns-in-None-pass g t c =
+pub returns-in-Break-body : need.returns-in-Break-body
+returns-in-Break-body g t c =
     let p = c .pre in
     let s : Starts (c .args .terms .now) (c .args .at) Abstraction = (c .if-at-terms .left, sym (c .in-Abstraction .ensures tt)) in
     let deep : c .args .depth < length (c .args .binders .now) = omega (arith, p .inner, c .if-at-terms .left) in
     let ey = take-more-set (c .args .binders .now) (c .args .depth) (c .args .used) deep in
-    clash-body (g .E·Source .list (c .args .entries .now)) (g .K·Source .list (c .args .kept .now)) (c .args .terms .now) (c .args .at) (take (c .args .depth) (c .args .binders .now)) (c .args .places .now) (c .args .memory .now) (c .args .used) (p .sound) (p .room) (p .scoped) s _ ey (c .in-None-pass .ensures tt)
+    rw (c .from-residual-in-Break-body .ensures) (clash-body (g .E·Source .list (c .args .entries .now)) (g .K·Source .list (c .args .kept .now)) (c .args .terms .now) (c .args .at) (take (c .args .depth) (c .args .binders .now)) (c .args .places .now) (c .args .memory .now) (c .args .used) (p .sound) (p .room) (p .scoped) s _ ey (c .in-Break-body .ensures tt))
 
 pub pass-requires-in-Application : need.pass-requires-in-Application
 pass-requires-in-Application g t c κs within =
@@ -108,11 +108,11 @@ pass-requires-in-Application g t c κs within =
     let r = need-at (g .E·Source .list (c .args .entries .now)) (g .K·Source .list (c .args .kept .now)) (c .args .terms .now) (c .args .at) Application s in
     (omega (arith, c .measured, c .if-at-terms .left), (within .0, (within .1, (p .sound, (omega (arith, p .room), (omega (arith, p .small), (omega (arith, p .inner), (p .placed, p .scoped))))))))
 
-pub pass-requires-in-Some-pass-2 : need.pass-requires-in-Some-pass-2
-pass-requires-in-Some-pass-2 g t c κs within =
+pub pass-requires-in-Application-2 : need.pass-requires-in-Application-2
+pass-requires-in-Application-2 g t c κs within =
     let p = c .pre in
     let s : Starts (c .args .terms .now) (c .args .at) Application = (c .if-at-terms .left, sym (c .in-Application .ensures tt)) in
-    let f = c .in-Some-pass-2 .ensures tt in
+    let f = c .in-Continue-f .ensures tt in
     let r = need-at (g .E·Source .list (c .args .entries .now)) (g .K·Source .list (c .args .kept .now)) (c .args .terms .now) (c .args .at) Application s in (
       omega (arith, c .measured, f .forward, f .within),
       (
@@ -143,42 +143,42 @@ pub call-requires : need.call-requires
 call-requires g t c κs =
     let p = c .pre in
     let s : Starts (c .args .terms .now) (c .args .at) Application = (c .if-at-terms .left, sym (c .in-Application .ensures tt)) in
-    let f = c .in-Some-pass-2 .ensures tt in
-    let x = c .in-Some-pass-3 .ensures tt in
+    let f = c .in-Continue-f .ensures tt in
+    let x = c .in-Continue-x .ensures tt in
     let r = call-room (g .E·Source .list (c .args .entries .now)) (g .K·Source .list (c .args .kept .now)) (c .args .terms .now) (c .args .at) (take (c .args .depth) (c .args .binders .now)) (c .args .places .now) (c .args .memory .now) (c .args .used) (p .sound) (p .room) (p .scoped) s _ _ _ _ f _ _ _ _ x in
     record { sound = x .sound; small = omega (arith, p .small, r); room = omega (arith, p .room, r); first = function-inside (g .E·Source .list (c .args .entries .now)) (g .K·Source .list (c .args .kept .now)) (c .args .terms .now) (c .args .at) (take (c .args .depth) (c .args .binders .now)) (c .args .places .now) (c .args .memory .now) (c .args .used) (p .sound) (p .room) (p .scoped) s _ _ _ _ f _ _ _ _ x; second = argument-inside (g .E·Source .list (c .args .entries .now)) (g .K·Source .list (c .args .kept .now)) (c .args .terms .now) (c .args .at) (take (c .args .depth) (c .args .binders .now)) (c .args .places .now) (c .args .memory .now) (c .args .used) (p .sound) (p .room) (p .scoped) s _ _ _ _ f _ _ _ _ x }
 
-pub add-result-in-Some-call : need.add-result-in-Some-call
-add-result-in-Some-call g t c =
+pub add-result-in-Application : need.add-result-in-Application
+add-result-in-Application g t c =
     let p = c .pre in
     let s : Starts (c .args .terms .now) (c .args .at) Application = (c .if-at-terms .left, sym (c .in-Application .ensures tt)) in
-    let f = c .in-Some-pass-2 .ensures tt in
-    let x = c .in-Some-pass-3 .ensures tt in
+    let f = c .in-Continue-f .ensures tt in
+    let x = c .in-Continue-x .ensures tt in
     let r = call-room (g .E·Source .list (c .args .entries .now)) (g .K·Source .list (c .args .kept .now)) (c .args .terms .now) (c .args .at) (take (c .args .depth) (c .args .binders .now)) (c .args .places .now) (c .args .memory .now) (c .args .used) (p .sound) (p .room) (p .scoped) s _ _ _ _ f _ _ _ _ x in
     omega (arith, p .small, r)
 
-pub returns-in-Some-call : need.returns-in-Some-call
-returns-in-Some-call g t c =
+pub returns-in-Continue-node : need.returns-in-Continue-node
+returns-in-Continue-node g t c =
     let p = c .pre in
     let s : Starts (c .args .terms .now) (c .args .at) Application = (c .if-at-terms .left, sym (c .in-Application .ensures tt)) in
-    let f = c .in-Some-pass-2 .ensures tt in
-    let x = c .in-Some-pass-3 .ensures tt in
-    find-application (g .E·Source .list (c .args .entries .now)) (g .K·Source .list (c .args .kept .now)) (c .args .terms .now) (c .args .at) (take (c .args .depth) (c .args .binders .now)) (c .args .places .now) (c .args .memory .now) (c .args .used) (p .sound) (p .room) (p .scoped) s _ _ _ _ f _ _ _ _ x _ _ (omega (arith, p .placed, c .if-at-terms .left)) (omega arith) (c .in-Some-call .ensures tt)
+    let f = c .in-Continue-f .ensures tt in
+    let x = c .in-Continue-x .ensures tt in
+    find-application (g .E·Source .list (c .args .entries .now)) (g .K·Source .list (c .args .kept .now)) (c .args .terms .now) (c .args .at) (take (c .args .depth) (c .args .binders .now)) (c .args .places .now) (c .args .memory .now) (c .args .used) (p .sound) (p .room) (p .scoped) s _ _ _ _ f _ _ _ _ x _ _ (omega (arith, p .placed, c .if-at-terms .left)) (omega arith) (c .in-Continue-node .ensures tt)
 
-pub returns-in-None-call : need.returns-in-None-call
-returns-in-None-call g t c =
+pub returns-in-Break-node : need.returns-in-Break-node
+returns-in-Break-node g t c =
     let p = c .pre in
     let s : Starts (c .args .terms .now) (c .args .at) Application = (c .if-at-terms .left, sym (c .in-Application .ensures tt)) in
-    clash-call (g .E·Source .list (c .args .entries .now)) (g .K·Source .list (c .args .kept .now)) (c .args .terms .now) (c .args .at) (take (c .args .depth) (c .args .binders .now)) (c .args .places .now) (c .args .memory .now) (c .args .used) (p .sound) (p .room) (p .scoped) s _ _ _ _ (c .in-Some-pass-2 .ensures tt) _ _ _ _ (c .in-Some-pass-3 .ensures tt) (c .in-None-call .ensures tt)
+    rw (c .from-residual-in-Break-node .ensures) (clash-call (g .E·Source .list (c .args .entries .now)) (g .K·Source .list (c .args .kept .now)) (c .args .terms .now) (c .args .at) (take (c .args .depth) (c .args .binders .now)) (c .args .places .now) (c .args .memory .now) (c .args .used) (p .sound) (p .room) (p .scoped) s _ _ _ _ (c .in-Continue-f .ensures tt) _ _ _ _ (c .in-Continue-x .ensures tt) (c .in-Break-node .ensures tt))
 
-pub returns-in-None-pass-3 : need.returns-in-None-pass-3
-returns-in-None-pass-3 g t c =
+pub returns-in-Break-x : need.returns-in-Break-x
+returns-in-Break-x g t c =
     let p = c .pre in
     let s : Starts (c .args .terms .now) (c .args .at) Application = (c .if-at-terms .left, sym (c .in-Application .ensures tt)) in
-    clash-argument (g .E·Source .list (c .args .entries .now)) (g .K·Source .list (c .args .kept .now)) (c .args .terms .now) (c .args .at) (take (c .args .depth) (c .args .binders .now)) (c .args .places .now) (c .args .memory .now) (c .args .used) (p .sound) (p .room) (p .scoped) s _ _ _ _ (c .in-Some-pass-2 .ensures tt) (c .in-None-pass-3 .ensures tt)
+    rw (c .from-residual-in-Break-x .ensures) (clash-argument (g .E·Source .list (c .args .entries .now)) (g .K·Source .list (c .args .kept .now)) (c .args .terms .now) (c .args .at) (take (c .args .depth) (c .args .binders .now)) (c .args .places .now) (c .args .memory .now) (c .args .used) (p .sound) (p .room) (p .scoped) s _ _ _ _ (c .in-Continue-f .ensures tt) (c .in-Break-x .ensures tt))
 
-pub returns-in-None-pass-2 : need.returns-in-None-pass-2
-returns-in-None-pass-2 g t c =
+pub returns-in-Break-f : need.returns-in-Break-f
+returns-in-Break-f g t c =
     let p = c .pre in
     let s : Starts (c .args .terms .now) (c .args .at) Application = (c .if-at-terms .left, sym (c .in-Application .ensures tt)) in
-    clash-function (g .E·Source .list (c .args .entries .now)) (g .K·Source .list (c .args .kept .now)) (c .args .terms .now) (c .args .at) (take (c .args .depth) (c .args .binders .now)) (c .args .places .now) (c .args .memory .now) (c .args .used) (p .sound) (p .room) (p .scoped) s (c .in-None-pass-2 .ensures tt)
+    rw (c .from-residual-in-Break-f .ensures) (clash-function (g .E·Source .list (c .args .entries .now)) (g .K·Source .list (c .args .kept .now)) (c .args .terms .now) (c .args .at) (take (c .args .depth) (c .args .binders .now)) (c .args .places .now) (c .args .memory .now) (c .args .used) (p .sound) (p .room) (p .scoped) s (c .in-Break-f .ensures tt))
