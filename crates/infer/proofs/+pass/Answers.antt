@@ -57,16 +57,16 @@ pass-requires g t c κs within =
         (
           within .1,
           (
-            body-sound (g .E·Source .list (c .args .entries .now)) (g .K·Source .list (c .args .kept .now)) (c .args .terms .now) (c .args .at) (take (c .args .depth) (c .args .binders .now)) (c .args .places .now) (c .args .memory .now) (c .args .used) (p .sound) (p .room) (p .scoped) s _ ey,
+            body-sound _ _ _ _ _ (c .args .places .now) (c .args .memory .now) (c .args .used) (p .sound) (p .room) (p .scoped) s _ ey,
             (
-              body-room (g .E·Source .list (c .args .entries .now)) (g .K·Source .list (c .args .kept .now)) (c .args .terms .now) (c .args .at) (take (c .args .depth) (c .args .binders .now)) (c .args .places .now) (c .args .memory .now) (c .args .used) (p .sound) (p .room) (p .scoped) s _ ey,
+              body-room _ _ _ _ _ (c .args .places .now) (c .args .memory .now) (c .args .used) (p .sound) (p .room) (p .scoped) s _ ey,
               (
                 omega (arith, p .small, r),
                 (
                   omega (arith, p .inner, c .if-at-terms .left, length-set (c .args .binders .now) (c .args .depth) (c .args .used)),
                   (
                     p .placed,
-                    body-scoped (g .E·Source .list (c .args .entries .now)) (g .K·Source .list (c .args .kept .now)) (c .args .terms .now) (c .args .at) (take (c .args .depth) (c .args .binders .now)) (c .args .places .now) (c .args .memory .now) (c .args .used) (p .sound) (p .room) (p .scoped) s _ ey,
+                    body-scoped _ _ _ _ _ (c .args .places .now) (c .args .memory .now) (c .args .used) (p .sound) (p .room) (p .scoped) s _ ey,
                   ),
                 ),
               ),
@@ -91,7 +91,7 @@ returns-in-Continue-body g t c =
     let deep : c .args .depth < length (c .args .binders .now) = omega (arith, p .inner, c .if-at-terms .left) in
     let ey = take-more-set (c .args .binders .now) (c .args .depth) (c .args .used) deep in
     let f = c .in-Continue-body .ensures tt in
-    find-abstraction (g .E·Source .list (c .args .entries .now)) (g .K·Source .list (c .args .kept .now)) (c .args .terms .now) (c .args .at) (take (c .args .depth) (c .args .binders .now)) (c .args .places .now) (c .args .memory .now) (c .args .used) (p .sound) (p .room) (p .scoped) s _ ey _ _ _ _ _ (c .in-Continue-body .body) _ f (omega (arith, p .placed, c .if-at-terms .left)) (scope-less (c .pass .last .binders) (c .args .binders .now) (c .args .depth) (c .args .used) (f .scope)) (c .close-node .ensures .is) (c .close-node .ensures .told)
+    find-abstraction _ _ _ _ _ (c .args .places .now) (c .args .memory .now) (c .args .used) (p .sound) (p .room) (p .scoped) s _ ey _ _ _ _ _ (c .in-Continue-body .body) _ f (omega (arith, p .placed, c .if-at-terms .left)) (scope-less (c .pass .last .binders) (c .args .binders .now) (c .args .depth) (c .args .used) (f .scope)) (c .close-node .ensures .is) (c .close-node .ensures .told)
 
 pub returns-in-Break-body : need.returns-in-Break-body
 returns-in-Break-body g t c =
@@ -99,7 +99,7 @@ returns-in-Break-body g t c =
     let s : Starts (c .args .terms .now) (c .args .at) Abstraction = (c .if-at-terms .left, sym (c .in-Abstraction .ensures tt)) in
     let deep : c .args .depth < length (c .args .binders .now) = omega (arith, p .inner, c .if-at-terms .left) in
     let ey = take-more-set (c .args .binders .now) (c .args .depth) (c .args .used) deep in
-    rw (c .from-residual-in-Break-body .ensures) (clash-body (g .E·Source .list (c .args .entries .now)) (g .K·Source .list (c .args .kept .now)) (c .args .terms .now) (c .args .at) (take (c .args .depth) (c .args .binders .now)) (c .args .places .now) (c .args .memory .now) (c .args .used) (p .sound) (p .room) (p .scoped) s _ ey (c .in-Break-body .ensures tt))
+    rw (c .from-residual-in-Break-body .ensures) (clash-body _ _ _ _ _ (c .args .places .now) (c .args .memory .now) (c .args .used) (p .sound) (p .room) (p .scoped) s _ ey (c .in-Break-body .ensures tt))
 
 pub pass-requires-in-Application : need.pass-requires-in-Application
 pass-requires-in-Application g t c κs within =
@@ -129,7 +129,7 @@ pass-requires-in-Application-2 g t c κs within =
                   omega (arith, p .inner, f .forward),
                   (
                     omega (arith, p .placed),
-                    argument-scoped (g .E·Source .list (c .args .entries .now)) (g .K·Source .list (c .args .kept .now)) (c .args .terms .now) (c .args .at) (take (c .args .depth) (c .args .binders .now)) (c .args .places .now) (c .args .memory .now) (c .args .used) (p .sound) (p .room) (p .scoped) s _ _ _ _ f,
+                    argument-scoped _ _ _ _ _ (c .args .places .now) (c .args .memory .now) (c .args .used) (p .sound) (p .room) (p .scoped) s _ _ _ _ f,
                   ),
                 ),
               ),
@@ -145,8 +145,8 @@ call-requires g t c κs =
     let s : Starts (c .args .terms .now) (c .args .at) Application = (c .if-at-terms .left, sym (c .in-Application .ensures tt)) in
     let f = c .in-Continue-f .ensures tt in
     let x = c .in-Continue-x .ensures tt in
-    let r = call-room (g .E·Source .list (c .args .entries .now)) (g .K·Source .list (c .args .kept .now)) (c .args .terms .now) (c .args .at) (take (c .args .depth) (c .args .binders .now)) (c .args .places .now) (c .args .memory .now) (c .args .used) (p .sound) (p .room) (p .scoped) s _ _ _ _ f _ _ _ _ x in
-    record { sound = x .sound; small = omega (arith, p .small, r); room = omega (arith, p .room, r); first = function-inside (g .E·Source .list (c .args .entries .now)) (g .K·Source .list (c .args .kept .now)) (c .args .terms .now) (c .args .at) (take (c .args .depth) (c .args .binders .now)) (c .args .places .now) (c .args .memory .now) (c .args .used) (p .sound) (p .room) (p .scoped) s _ _ _ _ f _ _ _ _ x; second = argument-inside (g .E·Source .list (c .args .entries .now)) (g .K·Source .list (c .args .kept .now)) (c .args .terms .now) (c .args .at) (take (c .args .depth) (c .args .binders .now)) (c .args .places .now) (c .args .memory .now) (c .args .used) (p .sound) (p .room) (p .scoped) s _ _ _ _ f _ _ _ _ x }
+    let r = call-room _ _ _ _ _ (c .args .places .now) (c .args .memory .now) (c .args .used) (p .sound) (p .room) (p .scoped) s _ _ _ _ f _ _ _ _ x in
+    record { sound = x .sound; small = omega (arith, p .small, r); room = omega (arith, p .room, r); first = function-inside _ _ _ _ _ (c .args .places .now) (c .args .memory .now) (c .args .used) (p .sound) (p .room) (p .scoped) s _ _ _ _ f _ _ _ _ x; second = argument-inside _ _ _ _ _ (c .args .places .now) (c .args .memory .now) (c .args .used) (p .sound) (p .room) (p .scoped) s _ _ _ _ f _ _ _ _ x }
 
 pub add-result-in-Application : need.add-result-in-Application
 add-result-in-Application g t c =
@@ -154,7 +154,7 @@ add-result-in-Application g t c =
     let s : Starts (c .args .terms .now) (c .args .at) Application = (c .if-at-terms .left, sym (c .in-Application .ensures tt)) in
     let f = c .in-Continue-f .ensures tt in
     let x = c .in-Continue-x .ensures tt in
-    let r = call-room (g .E·Source .list (c .args .entries .now)) (g .K·Source .list (c .args .kept .now)) (c .args .terms .now) (c .args .at) (take (c .args .depth) (c .args .binders .now)) (c .args .places .now) (c .args .memory .now) (c .args .used) (p .sound) (p .room) (p .scoped) s _ _ _ _ f _ _ _ _ x in
+    let r = call-room _ _ _ _ _ (c .args .places .now) (c .args .memory .now) (c .args .used) (p .sound) (p .room) (p .scoped) s _ _ _ _ f _ _ _ _ x in
     omega (arith, p .small, r)
 
 pub returns-in-Continue-node : need.returns-in-Continue-node
@@ -163,22 +163,22 @@ returns-in-Continue-node g t c =
     let s : Starts (c .args .terms .now) (c .args .at) Application = (c .if-at-terms .left, sym (c .in-Application .ensures tt)) in
     let f = c .in-Continue-f .ensures tt in
     let x = c .in-Continue-x .ensures tt in
-    find-application (g .E·Source .list (c .args .entries .now)) (g .K·Source .list (c .args .kept .now)) (c .args .terms .now) (c .args .at) (take (c .args .depth) (c .args .binders .now)) (c .args .places .now) (c .args .memory .now) (c .args .used) (p .sound) (p .room) (p .scoped) s _ _ _ _ f _ _ _ _ x _ _ (omega (arith, p .placed, c .if-at-terms .left)) (omega arith) (c .in-Continue-node .ensures tt)
+    find-application _ _ _ _ _ (c .args .places .now) (c .args .memory .now) (c .args .used) (p .sound) (p .room) (p .scoped) s _ _ _ _ f _ _ _ _ x _ _ (omega (arith, p .placed, c .if-at-terms .left)) (omega arith) (c .in-Continue-node .ensures tt)
 
 pub returns-in-Break-node : need.returns-in-Break-node
 returns-in-Break-node g t c =
     let p = c .pre in
     let s : Starts (c .args .terms .now) (c .args .at) Application = (c .if-at-terms .left, sym (c .in-Application .ensures tt)) in
-    rw (c .from-residual-in-Break-node .ensures) (clash-call (g .E·Source .list (c .args .entries .now)) (g .K·Source .list (c .args .kept .now)) (c .args .terms .now) (c .args .at) (take (c .args .depth) (c .args .binders .now)) (c .args .places .now) (c .args .memory .now) (c .args .used) (p .sound) (p .room) (p .scoped) s _ _ _ _ (c .in-Continue-f .ensures tt) _ _ _ _ (c .in-Continue-x .ensures tt) (c .in-Break-node .ensures tt))
+    rw (c .from-residual-in-Break-node .ensures) (clash-call _ _ _ _ _ (c .args .places .now) (c .args .memory .now) (c .args .used) (p .sound) (p .room) (p .scoped) s _ _ _ _ (c .in-Continue-f .ensures tt) _ _ _ _ (c .in-Continue-x .ensures tt) (c .in-Break-node .ensures tt))
 
 pub returns-in-Break-x : need.returns-in-Break-x
 returns-in-Break-x g t c =
     let p = c .pre in
     let s : Starts (c .args .terms .now) (c .args .at) Application = (c .if-at-terms .left, sym (c .in-Application .ensures tt)) in
-    rw (c .from-residual-in-Break-x .ensures) (clash-argument (g .E·Source .list (c .args .entries .now)) (g .K·Source .list (c .args .kept .now)) (c .args .terms .now) (c .args .at) (take (c .args .depth) (c .args .binders .now)) (c .args .places .now) (c .args .memory .now) (c .args .used) (p .sound) (p .room) (p .scoped) s _ _ _ _ (c .in-Continue-f .ensures tt) (c .in-Break-x .ensures tt))
+    rw (c .from-residual-in-Break-x .ensures) (clash-argument _ _ _ _ _ (c .args .places .now) (c .args .memory .now) (c .args .used) (p .sound) (p .room) (p .scoped) s _ _ _ _ (c .in-Continue-f .ensures tt) (c .in-Break-x .ensures tt))
 
 pub returns-in-Break-f : need.returns-in-Break-f
 returns-in-Break-f g t c =
     let p = c .pre in
     let s : Starts (c .args .terms .now) (c .args .at) Application = (c .if-at-terms .left, sym (c .in-Application .ensures tt)) in
-    rw (c .from-residual-in-Break-f .ensures) (clash-function (g .E·Source .list (c .args .entries .now)) (g .K·Source .list (c .args .kept .now)) (c .args .terms .now) (c .args .at) (take (c .args .depth) (c .args .binders .now)) (c .args .places .now) (c .args .memory .now) (c .args .used) (p .sound) (p .room) (p .scoped) s (c .in-Break-f .ensures tt))
+    rw (c .from-residual-in-Break-f .ensures) (clash-function _ _ _ _ _ (c .args .places .now) (c .args .memory .now) (c .args .used) (p .sound) (p .room) (p .scoped) s (c .in-Break-f .ensures tt))
