@@ -297,3 +297,6 @@ pub fn infer<E: Source, K: Source>(
         None
     }
 }
+
+#[cfg(test)]
+mod tests;
