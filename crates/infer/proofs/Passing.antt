@@ -62,9 +62,6 @@ module _ (E K : Lists) (ts : List TermNode) (i : ℕ) (xs ps : List ℕ) (us : L
 
   -- a node without parts
   module _ (l : Leaf) (s : Starts ts i (Single l)) where
-    pub leaf-room : n + leaf-need E K l ≤ n + need E K (drop i ts)
-    leaf-room = omega (arith, need-at E K ts i (Single l) s)
-
     pub clash-leaf : Refused (graph us n) (Of-leaf E K xs l) → Clashes E K ts i xs us n
     clash-leaf r = record { untyped = λ t st. untyped-leaf E K (graph us n) xs i l t (opens ts i t (Single l) (s .1) st) (r .never) }
 
@@ -144,9 +141,6 @@ module _ (E K : Lists) (ts : List TermNode) (i : ℕ) (xs ps : List ℕ) (us : L
   module _ (s : Starts ts i Application) where
     two-most : need E K (drop i ts) ≡ 2 + need E K (drop (i + 1) ts)
     two-most = need-at E K ts i Application s
-
-    pub function-room : n + need E K (drop (i + 1) ts) + 2 ≡ n + need E K (drop i ts)
-    function-room = omega (arith, two-most)
 
     pub clash-function : Clashes E K ts (i + 1) xs us n → Clashes E K ts i xs us n
     clash-function c =

@@ -18,10 +18,10 @@ use Rattle.infer.specs.Passes.{Stands}
 
 -- the node at place i has the head h
 abbrev pub Starts : List TermNode → ℕ → Head → Type 0
-Starts ts i h = (i < length ts) × (head-of (getD ts i zero-node) ≡ h)
+Starts ts i h = (i < length ts) × (h ≡ head-of (getD ts i zero-node))
 
 pub need-at : (E K : Lists) (ts : List TermNode) (i : ℕ) (h : Head) → Starts ts i h → need E K (drop i ts) ≡ head-need E K h + need E K (drop (i + 1) ts)
-need-at E K ts i h s = ap (need E K) (drop-more ts i zero-node (s .0)) ∙ ap (λ (g : Head). head-need E K g + need E K (drop (i + 1) ts)) (s .1)
+need-at E K ts i h s = ap (need E K) (drop-more ts i zero-node (s .0)) ∙ ap (λ (g : Head). head-need E K g + need E K (drop (i + 1) ts)) (sym (s .1))
 
 -- which term a node without parts is
 abbrev pub IsLeaf : Term → Leaf → Type 0
@@ -62,8 +62,8 @@ module _ (ts : List TermNode) (i : ℕ) where
   opened (primitive k) s = subst (λ (n : TermNode). Opens ts i (primitive k) (head-of n)) (sym (drop-front ts i _ _ (s .1) .1)) refl
   opened (reference k) s = subst (λ (n : TermNode). Opens ts i (reference k) (head-of n)) (sym (drop-front ts i _ _ (s .1) .1)) refl
 
-  pub opens : (t : Term) (h : Head) → head-of (getD ts i zero-node) ≡ h → Stands ts i t → Opens ts i t h
-  opens t h e s = subst (Opens ts i t) e (opened t s)
+  pub opens : (t : Term) (h : Head) → h ≡ head-of (getD ts i zero-node) → Stands ts i t → Opens ts i t h
+  opens t h e s = subst (Opens ts i t) (sym e) (opened t s)
 
   pub stands-within : (t : Term) → Stands ts i t → i < length ts
   stands-within (variable k) s = drop-front ts i _ _ (s .1) .0

@@ -5,6 +5,7 @@ use mathlib.Core.Logic.{_≢_}
 use Prim.Native.Nat.{ℕ, _+_, _<_, _≤_}
 use native.Mathlib.Omega.{arith}
 use lib.ListN.{length, getD}
+use Rattle.std.proofs.shelf.Lists.{drop-all}
 use Rattle.types.specs.Types.{Ty, base}
 use Rattle.types.specs.declared.TypeNode.{TypeNode}
 use Rattle.term.specs.Terms.{Term, prefix}
@@ -14,6 +15,7 @@ use Rattle.graph.specs.declared.Node.{Node}
 use Rattle.copy.specs.Instances.{Lists}
 use Rattle.infer.specs.declared.Found.{Found}
 use Rattle.infer.specs.Typing.{size, Typing}
+use Rattle.infer.specs.Heads.{need}
 use Rattle.infer.specs.Passes.{Stands, Gives, Typed, Untyped, Finds, Clashes, Built, Inferred, Untypable}
 use Rattle.infer.proofs.Typings.{some-node, typing-gives, type-typing}
 
@@ -43,7 +45,7 @@ module _ (E K : Lists) where
   pub inferred : (ts : List TermNode) (ys ps qs : List ℕ) (us ws : List TypeNode) (f : Found) → Finds E K ts 0 [] ys ps qs us ws 0 f → f .next ≡ length ts → Inferred E K ts qs ws (f .used)
   inferred ts ys ps qs us ws f F e =
       record {
-        needed = omega (arith, F .room);
+        needed = omega (arith, F .room, ap (need E K) (drop-all (f .next) ts (omega arith)));
         sound = F .sound;
         inside = λ p h. F .inside p (omega arith) (omega arith);
         built = λ t q. built t qs us (graph ws (f .used)) (F .typed t (stands ts t q) .1);

@@ -83,7 +83,7 @@ Untyped E K ns xs i t = (v T : ℕ → Ty) → Solves v ns → Typing E K (types
 pub record Finds (E K : Lists) (ts : List TermNode) (i : ℕ) (xs ys ps qs : List ℕ) (us ws : List TypeNode) (n : ℕ) (f : Found) : Type 0 where
   pub forward : i < f .next
   pub within : f .next ≤ length ts
-  pub room : f .used + need E K (drop (f .next) ts) ≤ n + need E K (drop i ts)
+  pub room : f .used + need E K (drop (f .next) ts) ≡ n + need E K (drop i ts)
   pub scope : ys ≡ xs
   pub older : (p : ℕ) → p < i → getD qs p 0 ≡ getD ps p 0
   pub node : f .node ≡ getD qs i 0
@@ -109,9 +109,9 @@ pub record Built (E K : Lists) (t : Term) (qs : List ℕ) (ms : List Node) : Typ
   pub solution : (T : ℕ → Ty) → Typing E K [] t T 0 → (w : ℕ → Ty) × Solves w ms × Gives w qs T 0 (size t)
   pub typable : (τ : Ty) → HasType E K [] t τ → (w : ℕ → Ty) × Solves w ms × (w (getD qs 0 0) ≡ τ)
 
--- n records are used; their graph is sound, and each term node has its node in it
+-- n records are used, as many as the term needs; their graph is sound, and each term node has its node in it
 pub record Inferred (E K : Lists) (ts : List TermNode) (qs : List ℕ) (ws : List TypeNode) (n : ℕ) : Type 0 where
-  pub needed : n ≤ need E K ts
+  pub needed : n ≡ need E K ts
   pub sound : Sound (graph ws n)
   pub inside : (p : ℕ) → p < length ts → getD qs p 0 < n
   pub built : (t : Term) → prefix t ≡ ts → Built E K t qs (graph ws n)
