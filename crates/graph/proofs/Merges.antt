@@ -78,15 +78,15 @@ module _ (ns : List Node) (low high : ℕ) (sound : Sound ns) (order : low < hig
           sound = link-sound;
           fewer = omega (arith, link-fewer (ap alive e));
           onto = λ v t a.
-            (let p = says-at v ns low (Branch j l r) t (omega arith) d in
-            let q = says-at v ns high (Branch k m s) t within e in
-            (link-onto v t a, (cc, cc)));
+              (let p = says-at v ns low (Branch j l r) t (omega arith) d in
+              let q = says-at v ns high (Branch k m s) t within e in
+              (link-onto v t a, (cc, cc)));
           back = λ v t a.
-            (let alike = link-alike v t in
-            let p = link-low v (Branch j l r) d t in
-            let a0 = a .0 in
-            let a1 = a .1 in
-            (link-back v (Branch k m s) e t (cc), alike));
+              (let alike = link-alike v t in
+              let p = link-low v (Branch j l r) d t in
+              let a0 = a .0 in
+              let a1 = a .1 in
+              (link-back v (Branch k m s) e t (cc), alike));
         };
         falls = link-fewer (ap alive e);
         first = (il .0, ih .0);
@@ -107,10 +107,10 @@ merged-low-var ns low high x sound order within d e one =
       fewer = omega (arith, link-fewer ms low high sound′ order within′ (ap alive e′ ∙ one), live-set ns low x hl, ap alive d, one);
       onto = λ v s a. (link-onto ms low high sound′ order within′ v (solves-set v ns low x s (says-move v high low x (sym a) (says-at v ns high x s within e))) a, tt);
       back = λ v s _.
-        (let alike = link-alike ms low high sound′ order within′ v s in
-        let here = link-low ms low high sound′ order within′ v x (getD-set-same ns low x Var hl) s in
-        let t = link-back ms low high sound′ order within′ v x e′ s (says-move v low high x alike here) in
-        (solves-unset v ns low x t (subst (Says v low) (sym d) tt), alike));
+          (let alike = link-alike ms low high sound′ order within′ v s in
+          let here = link-low ms low high sound′ order within′ v x (getD-set-same ns low x Var hl) s in
+          let t = link-back ms low high sound′ order within′ v x e′ s (says-move v low high x alike here) in
+          (solves-unset v ns low x t (subst (Says v low) (sym d) tt), alike));
     }
 
 -- where a and b have the types of x and y, other nodes may stand for them

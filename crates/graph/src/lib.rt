@@ -94,7 +94,11 @@ fn merge(memory: &mut [TypeNode], used: usize, low: u16, high: u16) -> Step
 {
     let upper = memory[high as usize];
     let above = look(upper);
-    let link = TypeNode { kind: LINK, left: low, right: 0 };
+    let link = TypeNode {
+        kind: LINK,
+        left: low,
+        right: 0,
+    };
     match look(memory[low as usize]) {
         Node::Var => {
             memory[low as usize] = upper;
