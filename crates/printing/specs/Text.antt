@@ -37,3 +37,7 @@ abbrev pub text : Ty → List ℕ
 text (variable v) = letters v
 text (base c) = getD base-names c []
 text (branch k a b) = branch-text k (is-arrow a) (text a) (text b)
+
+-- a type's text as the left part of an arrow
+abbrev pub left-text : Ty → List ℕ
+left-text t = left-part (is-arrow t) (text t)

@@ -1,11 +1,20 @@
 // The printed text of a type.
 ghost use mathlib.Core.Path.{_≡_};
+ghost use mathlib.Core.Bool.{cond};
 ghost use mathlib.Core.List.{[]};
-ghost use Prim.Native.Nat.{ℕ, _+_, _≤_, _<_};
+ghost use Prim.Native.Nat.{ℕ, _+_, _-_, _≤_, _<_};
+ghost use lib.Dec.{eqb};
 ghost use lib.ListN.{length, getD, take};
-ghost use Rattle.printing.specs.Text.{letters, base-names};
-ghost use Rattle.printing.specs.Writing.{Wrote};
+ghost use Rattle.types.specs.Lists.{Lawful, type-at};
+ghost use Rattle.printing.specs.Text.{letters, base-names, text, left-text};
+ghost use Rattle.printing.specs.Writing.{Wrote, capped, Measured};
+use types::ARROW;
+use types::BASE;
 use types::TypeNode;
+use types::VARIABLE;
+
+// The most bytes that a printed type may have.
+pub const MOST_BYTES: usize = 4096;
 
 // Why a list is not printed.
 #[derive(Clone, Copy, Debug, PartialEq)]
@@ -70,4 +79,80 @@ fn put(out: &mut [u8], at: usize, bytes: &[u8]) -> usize
         out[at + i] = *byte;
     }
     at + bytes.len()
+}
+
+// How many bytes the brackets around the left part of an arrow take.
+fn bracket_bytes(left: TypeNode) -> u16
+    ensures { λ r. ⌜ r ≡ cond (eqb (left .kind) 2) 2 0 ⌝ }
+{
+    if left.kind == ARROW { 2 } else { 0 }
+}
+
+// The length of the text at a place, or one more than the most, by the lengths at lower places.
+fn length_at(list: &[TypeNode], lengths: &[u16], place: usize) -> u16
+    requires lawful { ⌜ Lawful (now list) ⌝ }
+    requires here { ⌜ place < length (now list) ⌝ }
+    requires room { ⌜ length (now list) ≤ length (now lengths) ⌝ }
+    requires known { ⌜ Measured (now list) (now lengths) place ⌝ }
+    ensures { λ r. ⌜ r ≡ capped (now (list .entry)) place ⌝ }
+{
+    let node = list[place];
+    if node.kind == VARIABLE {
+        return letters_of(node.left).count as u16;
+    }
+    if node.kind == BASE {
+        return base_name(node.left).len() as u16;
+    }
+    let left = node.left as usize;
+    let brackets = bracket_bytes(list[left]);
+    let whole = lengths[left] + brackets + 4 + lengths[node.right as usize];
+    if whole > MOST_BYTES as u16 { MOST_BYTES as u16 + 1 } else { whole }
+}
+
+// The lengths of the texts at all places; the answer is the last.
+fn find_lengths(list: &[TypeNode], lengths: &mut [u16]) -> u16
+    requires lawful { ⌜ Lawful (now list) ⌝ }
+    requires room { ⌜ length (now list) ≤ length (now lengths) ⌝ }
+    ensures { λ r. ⌜ r ≡ capped (now (list .entry)) (length (now (list .entry)) - 1) ⌝ }
+{
+    for place in 0..list.len() {
+        let here = length_at(list, lengths, place);
+        lengths[place] = here;
+    }
+    lengths[list.len() - 1]
+}
+
+// Writes the text at a place, and answers where it ends.
+fn write(list: &[TypeNode], place: usize, out: &mut [u8], at: usize) -> usize
+    requires lawful { ⌜ Lawful (now list) ⌝ }
+    requires here { ⌜ place < length (now list) ⌝ }
+    requires room { ⌜ at + length (text (type-at (now list) place)) ≤ length (now out) ⌝ }
+    ensures { λ r. ⌜ Wrote (now (out .entry)) (now (out .exit)) at (text (type-at (now (list .entry)) place)) r ⌝ }
+{
+    let node = list[place];
+    if node.kind == VARIABLE {
+        let spelled = letters_of(node.left);
+        return put(out, at, &spelled.bytes[0..spelled.count]);
+    }
+    if node.kind == BASE {
+        return put(out, at, base_name(node.left));
+    }
+    let left_end = write_left(list, node.left as usize, out, at);
+    let right = put(out, left_end, b" -> ");
+    write(list, node.right as usize, out, right)
+}
+
+// Writes the text at a place as the left part of an arrow, and answers where it ends.
+fn write_left(list: &[TypeNode], place: usize, out: &mut [u8], at: usize) -> usize
+    requires lawful { ⌜ Lawful (now list) ⌝ }
+    requires here { ⌜ place < length (now list) ⌝ }
+    requires room { ⌜ at + length (left-text (type-at (now list) place)) ≤ length (now out) ⌝ }
+    ensures { λ r. ⌜ Wrote (now (out .entry)) (now (out .exit)) at (left-text (type-at (now (list .entry)) place)) r ⌝ }
+{
+    if list[place].kind != ARROW {
+        return write(list, place, out, at);
+    }
+    let inner = put(out, at, b"(");
+    let inner_end = write(list, place, out, inner);
+    put(out, inner_end, b")")
 }
