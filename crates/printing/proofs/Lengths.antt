@@ -8,11 +8,11 @@ use lib.Chars.{codes}
 use lib.Dec.{eqb}
 use lib.ListN.{length, getD}
 use Rattle.std.proofs.shelf.Lists.{length-append}
-use Rattle.std.proofs.shelf.Tests.{eq-eqb, ne-eqb, cond-true, cond-false}
+use Rattle.std.proofs.shelf.Tests.{eq-eqb, cond-true}
 use Rattle.types.specs.declared.TypeNode.{TypeNode}
 use Rattle.types.specs.Types.{Ty, variable, base, branch}
 use Rattle.types.specs.Lists.{zero-node, Lawful, shape, type-at}
-use Rattle.printing.specs.Text.{letters, base-names, in-brackets, left-part, is-arrow, text, left-text}
+use Rattle.printing.specs.Text.{letters, unknown, base-names, in-brackets, left-part, is-arrow, text, left-text}
 use Rattle.printing.specs.Writing.{capped, Measured}
 use Rattle.printing.proofs.Reading.{lower-at, at-variable, at-base, at-branch}
 
@@ -37,9 +37,6 @@ left-bracketed l p e = cond-true (is-arrow (type-at l p)) _ _ (arrow-at l p ∙ 
 pub bracketed-long : (l : List TypeNode) (p : ℕ) → getD l p zero-node .kind ≡ 2 → length (left-text (type-at l p)) ≡ length (text (type-at l p)) + 2
 bracketed-long l p e = let two = eq-eqb (getD l p zero-node .kind) 2 e in left-long l p ∙ ap (λ (x : Bool). length (text (type-at l p)) + cond x 2 0) two
 
-pub left-plain : (l : List TypeNode) (p : ℕ) → (getD l p zero-node .kind ≡ 2 → ⊥) → left-text (type-at l p) ≡ text (type-at l p)
-left-plain l p n = cond-false (is-arrow (type-at l p)) _ _ (arrow-at l p ∙ ne-eqb (getD l p zero-node .kind) 2 n)
-
 module _ (l : List TypeNode) (law : Lawful l) (p : ℕ) (h : p < length l) where
   abbrev here : TypeNode
   here = getD l p zero-node
@@ -47,7 +44,7 @@ module _ (l : List TypeNode) (law : Lawful l) (p : ℕ) (h : p < length l) where
   pub text-variable : here .kind ≡ 0 → text (type-at l p) ≡ letters (here .left)
   text-variable e = ap text (at-variable l law p h e)
 
-  pub text-base : here .kind ≡ 1 → text (type-at l p) ≡ getD base-names (here .left) []
+  pub text-base : here .kind ≡ 1 → text (type-at l p) ≡ getD base-names (here .left) unknown
   text-base e = ap text (at-base l law p h e)
 
   pub text-arrow : here .kind ≡ 2 → text (type-at l p) ≡ left-text (type-at l (here .left)) ++ (codes " -> " ++ text (type-at l (here .right)))

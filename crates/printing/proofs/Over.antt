@@ -31,10 +31,10 @@ three-pieces m m₁ m₂ m₃ at i j k s t u room a b c =
     let same : length m₁ ≡ length m = ap length (a .leaves) ∙ over-length m at s (omega arith) in
     record {
       leaves =
-        c .leaves
-        ∙ ap₂ (λ (x : List ℕ) (n : ℕ). over x n u) (b .leaves) (b .stop)
-        ∙ over-over m₁ i t u (omega (arith, a .stop))
-        ∙ ap₂ (λ (x : List ℕ) (n : ℕ). over x n (t ++ u)) (a .leaves) (a .stop)
-        ∙ over-over m at s (t ++ u) (omega arith);
+          c .leaves
+          ∙ ap₂ (λ (x : List ℕ) (n : ℕ). over x n u) (b .leaves) (b .stop)
+          ∙ over-over m₁ i t u (omega (arith, a .stop))
+          ∙ ap₂ (λ (x : List ℕ) (n : ℕ). over x n (t ++ u)) (a .leaves) (a .stop)
+          ∙ over-over m at s (t ++ u) (omega arith);
       stop = omega (arith, a .stop, b .stop, c .stop);
     }

@@ -40,11 +40,12 @@ module _ (l : List TypeNode) (law : Lawful l) where
   any-depth (suc d) (suc e) p h i j =
       shape-same (getD l p zero-node .kind) (getD l p zero-node .left) _ _ _ _
       (λ two.
-        let w = lower-at p h two in
-        let a = getD l p zero-node .left in
-        let b = getD l p zero-node .right in
-        (any-depth d e a (omega (arith, w .0)) (omega (arith, w .0)) (omega (arith, w .0)),
-        any-depth d e b (omega (arith, w .1)) (omega (arith, w .1)) (omega (arith, w .1))))
+      let w = lower-at p h two in
+      let a = getD l p zero-node .left in
+      let b = getD l p zero-node .right in (
+        any-depth d e a (omega (arith, w .0)) (omega (arith, w .0)) (omega (arith, w .0)),
+        any-depth d e b (omega (arith, w .1)) (omega (arith, w .1)) (omega (arith, w .1)),
+      ))
 
   module _ (p : ℕ) (h : p < length l) where
     abbrev here : TypeNode
@@ -63,5 +64,5 @@ module _ (l : List TypeNode) (law : Lawful l) where
         let b = here .right in
         shape-branch _ _ _ _ two
         ∙ ap₂ (branch (here .kind))
-          (any-depth p (suc a) a (omega (arith, w .0)) (w .0) (omega arith))
-          (any-depth p (suc b) b (omega (arith, w .1)) (w .1) (omega arith))
+        (any-depth p (suc a) a (omega (arith, w .0)) (w .0) (omega arith))
+        (any-depth p (suc b) b (omega (arith, w .1)) (w .1) (omega arith))

@@ -8,7 +8,11 @@ use lib.ListN.{getD}
 use Rattle.std.specs.Written.{decimal}
 use Rattle.types.specs.Types.{Ty, variable, base, branch}
 
--- a base by the place of its name
+-- what has no text of its own
+abbrev pub unknown : List ℕ
+unknown = codes "?"
+
+-- the bases' names, by code
 abbrev pub base-names : List (List ℕ)
 base-names = codes "hours" ∷ codes "rate" ∷ codes "gross" ∷ codes "net" ∷ codes "paid" ∷ codes "flag" ∷ []
 
@@ -31,11 +35,11 @@ is-arrow (branch k a b) = eqb k 2
 -- a branch of a kind, from the texts of its parts, and whether the left one is an arrow; only arrows have a text of
 -- their own
 abbrev pub branch-text : ℕ → Bool → List ℕ → List ℕ → List ℕ
-branch-text kind arrow a b = cond (eqb kind 2) (left-part arrow a ++ (codes " -> " ++ b)) (codes "?")
+branch-text kind arrow a b = cond (eqb kind 2) (left-part arrow a ++ (codes " -> " ++ b)) unknown
 
 abbrev pub text : Ty → List ℕ
 text (variable v) = letters v
-text (base c) = getD base-names c []
+text (base c) = getD base-names c unknown
 text (branch k a b) = branch-text k (is-arrow a) (text a) (text b)
 
 -- a type's text as the left part of an arrow

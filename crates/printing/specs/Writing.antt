@@ -33,11 +33,14 @@ pub record Prints (bytes : List ℕ) (room : ℕ) : Type 0 where
   pub short : length bytes ≤ 4096
   pub inside : length bytes ≤ room
 
--- the text of the list's type was written at the front of the memory, and the answer is its length
+-- the text of the list's type stands at the front of the memory, which beyond it is as it was; the answer is the
+-- text's length, and never 0
 pub record Printed (list : List TypeNode) (before after : List ℕ) (n : ℕ) : Type 0 where
   pub lawful : Lawful list
   pub prints : Prints (text (meaning list)) (length before)
-  pub written : Wrote before after 0 (text (meaning list)) n
+  pub answer : n ≡ length (text (meaning list))
+  pub some : 0 < n
+  pub leaves : after ≡ text (meaning list) ++ drop n before
 
 -- the list is lawful, but its text may not be printed, and the memory is as it was
 pub record Overlong (list : List TypeNode) (before after : List ℕ) : Type 0 where

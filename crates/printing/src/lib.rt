@@ -1,17 +1,18 @@
 // The printed text of a type.
 ghost use mathlib.Core.Path.{_≡_};
 ghost use mathlib.Core.Bool.{cond};
-ghost use mathlib.Core.List.{[]};
 ghost use Prim.Native.Nat.{ℕ, _+_, _-_, _≤_, _<_};
 ghost use lib.Dec.{eqb};
 ghost use lib.ListN.{length, getD, take};
 ghost use Rattle.types.specs.Lists.{Lawful, type-at};
-ghost use Rattle.printing.specs.Text.{letters, base-names, text, left-text};
-ghost use Rattle.printing.specs.Writing.{Wrote, capped, Measured};
+ghost use Rattle.printing.specs.Text.{letters, unknown, base-names, text, left-text};
+ghost use Rattle.printing.specs.Writing.{Wrote, capped, Measured, Shown};
 use types::ARROW;
 use types::BASE;
+use types::MOST_NODES;
 use types::TypeNode;
 use types::VARIABLE;
+use types::is_lawful;
 
 // The most bytes that a printed type may have.
 pub const MOST_BYTES: usize = 4096;
@@ -44,20 +45,32 @@ fn letters_of(number: u16) -> Letters
     let tens = suffix / 10;
     let last = b'0' + suffix % 10;
     if number < 26 {
-        Letters { bytes: [letter, 0, 0, 0], count: 1 }
+        Letters {
+            bytes: [letter, 0, 0, 0],
+            count: 1,
+        }
     } else if suffix < 10 {
-        Letters { bytes: [letter, last, 0, 0], count: 2 }
+        Letters {
+            bytes: [letter, last, 0, 0],
+            count: 2,
+        }
     } else if suffix < 100 {
-        Letters { bytes: [letter, b'0' + tens, last, 0], count: 3 }
+        Letters {
+            bytes: [letter, b'0' + tens, last, 0],
+            count: 3,
+        }
     } else {
-        Letters { bytes: [letter, b'0' + tens / 10, b'0' + tens % 10, last], count: 4 }
+        Letters {
+            bytes: [letter, b'0' + tens / 10, b'0' + tens % 10, last],
+            count: 4,
+        }
     }
 }
 
 // The name of a base.
 fn base_name(code: u16) -> &'static [u8]
     requires { ⌜ code ≤ 5 ⌝ }
-    ensures named { λ r. ⌜ now r ≡ getD base-names code [] ⌝ }
+    ensures named { λ r. ⌜ now r ≡ getD base-names code unknown ⌝ }
     ensures short { λ r. ⌜ length (now r) ≤ 5 ⌝ }
 {
     match code {
@@ -106,7 +119,11 @@ fn length_at(list: &[TypeNode], lengths: &[u16], place: usize) -> u16
     let left = node.left as usize;
     let brackets = bracket_bytes(list[left]);
     let whole = lengths[left] + brackets + 4 + lengths[node.right as usize];
-    if whole > MOST_BYTES as u16 { MOST_BYTES as u16 + 1 } else { whole }
+    if whole > MOST_BYTES as u16 {
+        MOST_BYTES as u16 + 1
+    } else {
+        whole
+    }
 }
 
 // The lengths of the texts at all places; the answer is the last.
@@ -156,3 +173,21 @@ fn write_left(list: &[TypeNode], place: usize, out: &mut [u8], at: usize) -> usi
     let inner_end = write(list, place, out, inner);
     put(out, inner_end, b")")
 }
+
+// Writes the text of the list's type at the front of the memory, and answers its length.
+pub fn show(list: &[TypeNode], out: &mut [u8]) -> Result<usize, ShowFault>
+    ensures { λ r. ⌜ Shown (now (list .entry)) (now (out .entry)) (now (out .exit)) r ⌝ }
+{
+    if !is_lawful(list) {
+        return Err(ShowFault::Unlawful);
+    }
+    let mut lengths = [0u16; MOST_NODES];
+    let bytes = find_lengths(list, &mut lengths) as usize;
+    if bytes > MOST_BYTES || bytes > out.len() {
+        return Err(ShowFault::TooLong);
+    }
+    Ok(write(list, list.len() - 1, out, 0))
+}
+
+#[cfg(test)]
+mod tests;

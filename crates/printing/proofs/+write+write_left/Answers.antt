@@ -55,10 +55,13 @@ write-write-requires t c κs =
     let p = c .args .place in
     let two = is-two l (c .pre .lawful) p (c .pre .here) (c .if-node-eq-VARIABLE .left) (c .if-node-eq-BASE .left) in
     let low = parts-lower l (c .pre .lawful) p (c .pre .here) (c .if-node-eq-VARIABLE .left) (c .if-node-eq-BASE .left) in
-    let size = arrow-long l (c .pre .lawful) p (c .pre .here) two in
-    (omega (arith, low .1),
-    (c .pre .lawful,
-    (omega (arith, low .1), omega (arith, size, c .pre .room, c .write-left-left-end .ensures .stop, c .write-left-left-end .kept .out, c .put-right .ensures .stop, c .put-right .kept .out))))
+    let size = arrow-long l (c .pre .lawful) p (c .pre .here) two in (
+      omega (arith, low .1),
+      (
+        c .pre .lawful,
+        (omega (arith, low .1), omega (arith, size, c .pre .room, c .write-left-left-end .ensures .stop, c .write-left-left-end .kept .out, c .put-right .ensures .stop, c .put-right .kept .out)),
+      ),
+    )
 
 pub write-returns : need.write-returns
 write-returns t c =
