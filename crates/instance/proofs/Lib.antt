@@ -1,2 +1,4 @@
 pub mod Reading
 pub mod Places
+pub mod Tables
+pub mod Asking

@@ -2,10 +2,16 @@
 ghost use mathlib.Core.Bool.{true};
 ghost use mathlib.Core.Path.{_≡_};
 ghost use Rattle.std.specs.Orderings.{Decides};
-ghost use Rattle.types.specs.Lists.{Lawful};
+ghost use Prim.Native.Nat.{ℕ, _+_, _<_, _≤_};
+ghost use lib.ListN.{length, getD};
+ghost use Rattle.types.specs.Types.{Instance};
+ghost use Rattle.types.specs.Lists.{Lawful, type-at, meaning};
 ghost use Rattle.instance.specs.Once.{Found, Once, Places-are-types};
+ghost use Rattle.instance.specs.Matching.{Given, Within, Stepped};
+use types::BASE;
 use types::TypeNode;
 use types::TypeNodePartialEq;
+use types::VARIABLE;
 
 // Which of the two lists means no type; the first is asked first.
 #[derive(Clone, Copy, Debug, PartialEq)]
@@ -35,6 +41,86 @@ pub fn is_once(list: &[TypeNode]) -> bool
         match find(&list[0..place], list[place]) {
             Some(_) => return false,
             None => {}
+        }
+    }
+    true
+}
+
+// Gives an entry of a table a place, unless it has another; 0 is for none, and p + 1 for the place p.
+fn give(table: &mut [u16], at: u16, place: u16) -> bool
+    requires inside { ⌜ at < length (now table) ⌝ }
+    requires small { ⌜ place < 65535 ⌝ }
+    ensures { λ r. ⌜ Given (now (table .entry)) (now (table .exit)) at place r ⌝ }
+{
+    let old = table[at as usize];
+    if old == 0 {
+        table[at as usize] = place + 1;
+        return true;
+    }
+    old == place + 1
+}
+
+// Asks of the parts of a node of the general list what is asked of the node.
+fn step(general: &[TypeNode], special: &[TypeNode], at: usize, nodes: &mut [u16], variables: &mut [u16]) -> bool
+    requires general { ⌜ Lawful (now general) ⌝ }
+    requires special { ⌜ Lawful (now special) ⌝ }
+    requires once { ⌜ Once (now special) ⌝ }
+    requires here { ⌜ at < length (now general) ⌝ }
+    requires room { ⌜ length (now general) ≤ length (now nodes) ⌝ }
+    requires names { ⌜ 4096 ≤ length (now variables) ⌝ }
+    requires within { ⌜ Within (length (now special)) (now nodes) (now variables) (at + 1) ⌝ }
+    ensures { λ r. ⌜ Stepped (now (general .entry)) (now (special .entry)) (now (nodes .entry)) (now (nodes .exit)) (now (variables .entry)) (now (variables .exit)) at r ⌝ }
+{
+    let mark = nodes[at];
+    if mark == 0 {
+        return true;
+    }
+    let place = mark - 1;
+    let asked = general[at];
+    let has = special[place as usize];
+    if asked.kind == VARIABLE {
+        return give(variables, asked.left, place);
+    }
+    if asked.kind != has.kind {
+        return false;
+    }
+    if asked.kind == BASE {
+        return asked.left == has.left;
+    }
+    if !give(nodes, asked.left, has.left) {
+        return false;
+    }
+    give(nodes, asked.right, has.right)
+}
+
+// Takes all places out of a table.
+fn clear(table: &mut [u16])
+    ensures { λ _. ⌜ ((e : ℕ) → e < length (now (table .exit)) → getD (now (table .exit)) e 0 ≡ 0) ⌝ }
+{
+    for entry in table.iter_mut() {
+        *entry = 0;
+    }
+}
+
+// Whether the type at a place of the special list is an instance of the general list's type. The two tables are room to
+// work in; it takes time for each node of the general list, and none for the special one.
+pub fn fits(general: &[TypeNode], special: &[TypeNode], place: u16, nodes: &mut [u16], variables: &mut [u16]) -> bool
+    requires general { ⌜ Lawful (now general) ⌝ }
+    requires special { ⌜ Lawful (now special) ⌝ }
+    requires once { ⌜ Once (now special) ⌝ }
+    requires place { ⌜ place < length (now special) ⌝ }
+    requires room { ⌜ length (now general) ≤ length (now nodes) ⌝ }
+    requires names { ⌜ 4096 ≤ length (now variables) ⌝ }
+    ensures { λ r. ⌜ Decides r (Instance (meaning (now (general .entry))) (type-at (now (special .entry)) place)) ⌝ }
+{
+    clear(nodes);
+    clear(variables);
+    let mut at = general.len();
+    nodes[at - 1] = place + 1;
+    while at > 0 {
+        at -= 1;
+        if !step(general, special, at, nodes, variables) {
+            return false;
         }
     }
     true
