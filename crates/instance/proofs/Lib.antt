@@ -2,3 +2,5 @@ pub mod Reading
 pub mod Places
 pub mod Tables
 pub mod Asking
+pub mod Walk
+pub mod Growing

@@ -23,7 +23,7 @@ shape-branch (suc zero) n a b h = absurd (omega arith)
 shape-branch (suc (suc k)) n a b h = refl
 
 -- a leaf does not depend on its parts
-shape-same : (k n : ℕ) (a b x y : Ty) → (2 ≤ k → (a ≡ x) × (b ≡ y)) → shape k n a b ≡ shape k n x y
+pub shape-same : (k n : ℕ) (a b x y : Ty) → (2 ≤ k → (a ≡ x) × (b ≡ y)) → shape k n a b ≡ shape k n x y
 shape-same zero n a b x y parts = refl
 shape-same (suc zero) n a b x y parts = refl
 shape-same (suc (suc k)) n a b x y parts = let w = parts (omega arith) in ap₂ (branch (suc (suc k))) (w .0) (w .1)

@@ -3,11 +3,13 @@ ghost use mathlib.Core.Bool.{true};
 ghost use mathlib.Core.Path.{_≡_};
 ghost use Rattle.std.specs.Orderings.{Decides};
 ghost use Prim.Native.Nat.{ℕ, _+_, _<_, _≤_};
-ghost use lib.ListN.{length, getD};
+ghost use lib.ListN.{length, getD, take};
 ghost use Rattle.types.specs.Types.{Instance};
 ghost use Rattle.types.specs.Lists.{Lawful, type-at, meaning};
 ghost use Rattle.instance.specs.Once.{Found, Once, Places-are-types};
+ghost use Rattle.instance.specs.Merging.{moved, Keeps, Merged};
 ghost use Rattle.instance.specs.Matching.{Given, Within, Stepped};
+use types::ARROW;
 use types::BASE;
 use types::TypeNode;
 use types::TypeNodePartialEq;
@@ -103,7 +105,7 @@ fn clear(table: &mut [u16])
 }
 
 // Whether the type at a place of the special list is an instance of the general list's type. The two tables are room to
-// work in; it takes time for each node of the general list, and none for the special one.
+// work in: the time is for their entries and for the nodes of the general list, however long the special one is.
 pub fn fits(general: &[TypeNode], special: &[TypeNode], place: u16, nodes: &mut [u16], variables: &mut [u16]) -> bool
     requires general { ⌜ Lawful (now general) ⌝ }
     requires special { ⌜ Lawful (now special) ⌝ }
@@ -124,4 +126,56 @@ pub fn fits(general: &[TypeNode], special: &[TypeNode], place: u16, nodes: &mut 
         }
     }
     true
+}
+
+// A record with new places for its parts.
+fn with_places(node: TypeNode, places: &[u16]) -> TypeNode
+    requires { ⌜ (2 ≤ node .kind → (node .left < length (now places)) × (node .right < length (now places))) ⌝ }
+    ensures { λ r. ⌜ r ≡ moved node (now (places .entry)) ⌝ }
+{
+    if node.kind < ARROW {
+        return node;
+    }
+    TypeNode { kind: node.kind, left: places[node.left as usize], right: places[node.right as usize] }
+}
+
+// The place of a record, and how many records there are.
+#[derive(Clone, Copy)]
+struct Keeping {
+    place: usize,
+    count: usize,
+}
+
+// The place of a record among the first `count`; a new one is put after them.
+fn keep(merged: &mut [TypeNode], count: usize, node: TypeNode) -> Keeping
+    requires { ⌜ count < length (now merged) ⌝ }
+    ensures kept { λ r. ⌜ Keeps (take count (now (merged .entry))) (take (r .count) (now (merged .exit))) node (r .place) ⌝ }
+    ensures few { λ r. ⌜ r .count ≤ count + 1 ⌝ }
+    ensures inside { λ r. ⌜ r .place < r .count ⌝ }
+{
+    match find(&merged[0..count], node) {
+        Some(place) => Keeping { place, count },
+        None => {
+            merged[count] = node;
+            Keeping { place: count, count: count + 1 }
+        }
+    }
+}
+
+// Brings a list into one without equal records, and notes each node's place there; the answer is its length.
+fn merge(list: &[TypeNode], merged: &mut [TypeNode], places: &mut [u16]) -> usize
+    requires lawful { ⌜ Lawful (now list) ⌝ }
+    requires room { ⌜ length (now list) ≤ length (now merged) ⌝ }
+    requires places { ⌜ length (now list) ≤ length (now places) ⌝ }
+    ensures merged { λ r. ⌜ Merged (now (list .entry)) (take r (now (merged .exit))) (now (places .exit)) (length (now (list .entry))) ⌝ }
+    ensures few { λ r. ⌜ r ≤ length (now (list .entry)) ⌝ }
+{
+    let mut count = 0;
+    for place in 0..list.len() {
+        let node = with_places(list[place], places);
+        let kept = keep(merged, count, node);
+        places[place] = kept.place as u16;
+        count = kept.count;
+    }
+    count
 }
