@@ -4,3 +4,4 @@ pub mod Tables
 pub mod Asking
 pub mod Walk
 pub mod Growing
+pub mod Joining

@@ -9,11 +9,14 @@ ghost use Rattle.types.specs.Lists.{Lawful, type-at, meaning};
 ghost use Rattle.instance.specs.Once.{Found, Once, Places-are-types};
 ghost use Rattle.instance.specs.Merging.{moved, Keeps, Merged};
 ghost use Rattle.instance.specs.Matching.{Given, Within, Stepped};
+ghost use Rattle.instance.specs.Deciding.{Answered};
 use types::ARROW;
 use types::BASE;
+use types::MOST_NODES;
 use types::TypeNode;
 use types::TypeNodePartialEq;
 use types::VARIABLE;
+use types::is_lawful;
 
 // Which of the two lists means no type; the first is asked first.
 #[derive(Clone, Copy, Debug, PartialEq)]
@@ -178,4 +181,23 @@ fn merge(list: &[TypeNode], merged: &mut [TypeNode], places: &mut [u16]) -> usiz
         count = kept.count;
     }
     count
+}
+
+// Whether the second list's type is an instance of the first's.
+pub fn is_instance(general: &[TypeNode], special: &[TypeNode]) -> Result<bool, InstanceFault>
+    ensures { λ r. ⌜ Answered (now (general .entry)) (now (special .entry)) r ⌝ }
+{
+    if !is_lawful(general) {
+        return Err(InstanceFault::UnlawfulGeneral);
+    }
+    if !is_lawful(special) {
+        return Err(InstanceFault::UnlawfulSpecial);
+    }
+    let mut merged = [TypeNode { kind: 0, left: 0, right: 0 }; MOST_NODES];
+    let mut places = [0u16; MOST_NODES];
+    let mut nodes = [0u16; MOST_NODES];
+    let mut variables = [0u16; MOST_NODES];
+    let count = merge(special, &mut merged, &mut places);
+    let place = places[special.len() - 1];
+    Ok(fits(general, &merged[0..count], place, &mut nodes, &mut variables))
 }
