@@ -36,10 +36,10 @@ module _ (g s : List TypeNode) (lg : Lawful g) (ls : Lawful s) (once : Once s) (
       record {
         named = named;
         parts = λ j q h e.
-          elim (cases-eq j k) [
-            inl same ↦ subst (λ (i : ℕ). apply σ (type-at g i) ≡ type-at s q) (sym same) (last q (sym (ap (λ (i : ℕ). getD ns i 0) same) ∙ e))
-          | inr other ↦ below j q e (omega arith)
-          ];
+            elim (cases-eq j k) [
+              | inl same ↦ subst (λ (i : ℕ). apply σ (type-at g i) ≡ type-at s q) (sym same) (last q (sym (ap (λ (i : ℕ). getD ns i 0) same) ∙ e))
+              | inr other ↦ below j q e (omega arith)
+            ];
       }
 
   asked-below : (σ : ℕ → Ty) → Pending g s ns vs (k + 1) σ → OfPlaces ns (Asks σ)
@@ -98,29 +98,29 @@ module _ (g s : List TypeNode) (lg : Lawful g) (ls : Lawful s) (once : Once s) (
         record {
           within = record { parts = λ j q h e. inside-below j q e h; named = gave-onto (λ _ q. q < length s) vs vs′ v place w (ins .named) place-inside };
           onto = λ σ p.
-            record {
-              parts = λ j q h e. asked-below σ p j q e h;
-              named = gave-onto (λ u q. σ u ≡ type-at s q) vs vs′ v place w (p .named) (sym (ap (apply σ) is) ∙ asked σ p);
-            };
+              record {
+                parts = λ j q h e. asked-below σ p j q e h;
+                named = gave-onto (λ u q. σ u ≡ type-at s q) vs vs′ v place w (p .named) (sym (ap (apply σ) is) ∙ asked σ p);
+              };
           back = λ σ p.
-            all-asked σ
-            (gave-back (λ u q. σ u ≡ type-at s q) vs vs′ v place w (p .named))
-            (λ j q e h. p .parts j q h e)
-            (only-place σ (ap (apply σ) is ∙ p .named v place (w .has)));
+              all-asked σ
+              (gave-back (λ u q. σ u ≡ type-at s q) vs vs′ v place w (p .named))
+              (λ j q e h. p .parts j q h e)
+              (only-place σ (ap (apply σ) is ∙ p .named v place (w .has)));
         }
     step-variable vs′ false zero w =
         λ σ p.
-          (let v = asked-node .left in
-          let is = at-variable g (lg .each) k here zero in
-          two-places vs v place (σ v) w (λ x e. (ins .named v x e, p .named v x e)) place-inside (sym (ap (apply σ) is) ∙ asked σ p))
+        (let v = asked-node .left in
+        let is = at-variable g (lg .each) k here zero in
+        two-places vs v place (σ v) w (λ x e. (ins .named v x e, p .named v x e)) place-inside (sym (ap (apply σ) is) ∙ asked σ p))
 
     pub step-kinds : asked-node .kind ≢ 0 → asked-node .kind ≢ has-node .kind → Clash g s ns vs (k + 1)
     step-kinds nonzero differ =
         λ σ p.
-          (let a = kind-at g k in
-          let b = kind-at s place in
-          let c = kind-apply σ (type-at g k) (λ zero. nonzero (sym a ∙ zero)) in
-          differ (sym a ∙ sym c ∙ ap kind-of (asked σ p) ∙ b))
+        (let a = kind-at g k in
+        let b = kind-at s place in
+        let c = kind-apply σ (type-at g k) (λ zero. nonzero (sym a ∙ zero)) in
+        differ (sym a ∙ sym c ∙ ap kind-of (asked σ p) ∙ b))
 
     pub step-base : (r : Bool) → eqb (asked-node .left) (has-node .left) ≡ r → asked-node .kind ≡ 1 → asked-node .kind ≡ has-node .kind → Stepped g s ns ns vs vs k r
     step-base true test one same =
@@ -130,9 +130,9 @@ module _ (g s : List TypeNode) (lg : Lawful g) (ls : Lawful s) (once : Once s) (
         no-parts (λ σ. only-place σ (ap (apply σ) is ∙ ap base codes ∙ sym has))
     step-base false test one same =
         λ σ p.
-          (let is = at-base g (lg .each) k here one in
-          let has = at-base s (ls .each) place place-inside (sym same ∙ one) in
-          eqb-false (asked-node .left) (has-node .left) test (ap number-of (sym (ap (apply σ) is) ∙ asked σ p ∙ has)))
+        (let is = at-base g (lg .each) k here one in
+        let has = at-base s (ls .each) place place-inside (sym same ∙ one) in
+        eqb-false (asked-node .left) (has-node .left) test (ap number-of (sym (ap (apply σ) is) ∙ asked σ p ∙ has)))
 
     module _ (two : 2 ≤ asked-node .kind) (same : asked-node .kind ≡ has-node .kind) where
       abbrev gl : ℕ
@@ -168,37 +168,38 @@ module _ (g s : List TypeNode) (lg : Lawful g) (ls : Lawful s) (once : Once s) (
       pub step-left : Taken ns gl sl → Clash g s ns vs (k + 1)
       step-left taken =
           λ σ p.
-            two-places ns gl sl (apply σ (type-at g gl)) taken
-            (λ x e. (inside-below gl x e (asked-lower .0), asked-below σ p gl x e (asked-lower .0)))
-            (has-inside .0)
-            (ap left-of (parts-asked σ p))
+          two-places ns gl sl (apply σ (type-at g gl)) taken
+          (λ x e. (inside-below gl x e (asked-lower .0), asked-below σ p gl x e (asked-lower .0)))
+          (has-inside .0)
+          (ap left-of (parts-asked σ p))
 
       pub step-right : (ns₁ ns₂ : List ℕ) (r : Bool) → Gave ns ns₁ gl sl → Given ns₁ ns₂ gr sr r → Stepped g s ns ns₂ vs vs k r
       step-right ns₁ ns₂ true w z =
           record {
             within =
-              record {
-                parts = λ j q h e. gave-onto Inside ns₁ ns₂ gr sr z (gave-onto Inside ns ns₁ gl sl w inside-below (λ _. has-inside .0)) (λ _. has-inside .1) j q e h;
-                named = ins .named;
-              };
+                record {
+                  parts = λ j q h e. gave-onto Inside ns₁ ns₂ gr sr z (gave-onto Inside ns ns₁ gl sl w inside-below (λ _. has-inside .0)) (λ _. has-inside .1) j q e h;
+                  named = ins .named;
+                };
             onto = λ σ p.
-              record {
-                parts = λ j q h e.
-                  gave-onto (Asks σ) ns₁ ns₂ gr sr z
-                  (gave-onto (Asks σ) ns ns₁ gl sl w (asked-below σ p) (λ _. ap left-of (parts-asked σ p)))
-                  (λ _. ap right-of (parts-asked σ p)) j q e h;
-                named = p .named;
-              };
+                record {
+                  parts = λ j q h e.
+                      gave-onto (Asks σ) ns₁ ns₂ gr sr z
+                      (gave-onto (Asks σ) ns ns₁ gl sl w (asked-below σ p) (λ _. ap left-of (parts-asked σ p)))
+                      (λ _. ap right-of (parts-asked σ p)) j q e h;
+                  named = p .named;
+                };
             back = λ σ p.
-              (let middle = gave-back (Asks σ) ns₁ ns₂ gr sr z (λ j q e h. p .parts j q h e) in
-              all-asked σ (p .named) (gave-back (Asks σ) ns ns₁ gl sl w middle)
-              (only-place σ (ap (apply σ) asked-branch ∙ ap₂ (branch (asked-node .kind)) (middle gl sl (w .has) (asked-lower .0)) (p .parts gr sr (asked-lower .1) (z .has)) ∙ sym has-branch)));
+                (let middle = gave-back (Asks σ) ns₁ ns₂ gr sr z (λ j q e h. p .parts j q h e) in
+                all-asked σ (p .named) (gave-back (Asks σ) ns ns₁ gl sl w middle)
+                (only-place σ (ap (apply σ) asked-branch ∙ ap₂ (branch (asked-node .kind)) (middle gl sl (w .has) (asked-lower .0)) (p .parts gr sr (asked-lower .1) (z .has)) ∙ sym has-branch)));
           }
       step-right ns₁ ns₂ false w z =
           λ σ p.
-            two-places ns₁ gr sr (apply σ (type-at g gr)) z
-            (λ x e.
-              (gave-onto Inside ns ns₁ gl sl w inside-below (λ _. has-inside .0) gr x e (asked-lower .1),
-              gave-onto (Asks σ) ns ns₁ gl sl w (asked-below σ p) (λ _. ap left-of (parts-asked σ p)) gr x e (asked-lower .1)))
-            (has-inside .1)
-            (ap right-of (parts-asked σ p))
+          two-places ns₁ gr sr (apply σ (type-at g gr)) z
+          (λ x e. (
+            gave-onto Inside ns ns₁ gl sl w inside-below (λ _. has-inside .0) gr x e (asked-lower .1),
+            gave-onto (Asks σ) ns ns₁ gl sl w (asked-below σ p) (λ _. ap left-of (parts-asked σ p)) gr x e (asked-lower .1),
+          ))
+          (has-inside .1)
+          (ap right-of (parts-asked σ p))

@@ -43,18 +43,18 @@ module _ (m : List TypeNode) (each : LawfulNodes m) (once : Once m) where
     same-reading (suc d) p h =
         ap (λ (x : TypeNode). shape (x .kind) (x .left) (reading d more (x .left)) (reading d more (x .right))) (old-at p h)
         ∙ shape-same (getD m p zero-node .kind) (getD m p zero-node .left) _ _ _ _
-          (λ two.
-            (let w = lower-at m each p h two in
-            (same-reading d (getD m p zero-node .left) (omega (arith, w .0)), same-reading d (getD m p zero-node .right) (omega (arith, w .1)))))
+        (λ two.
+        (let w = lower-at m each p h two in
+        (same-reading d (getD m p zero-node .left) (omega (arith, w .0)), same-reading d (getD m p zero-node .right) (omega (arith, w .1)))))
 
     module _ (lawful : LawfulNode (length m) n) (absent : Absent m n) where
       more-each : LawfulNodes more
       more-each p h =
           elim (cases-eq p (length m)) [
-            inl last ↦ subst (λ (i : ℕ). LawfulNode i (getD more i zero-node)) (sym last) (subst (LawfulNode (length m)) (sym new-at) lawful)
-          | inr other ↦
-              (let below : p < length m = omega (arith, length-push m n) in
-              subst (LawfulNode p) (sym (old-at p below)) (each p below))
+            | inl last ↦ subst (λ (i : ℕ). LawfulNode i (getD more i zero-node)) (sym last) (subst (LawfulNode (length m)) (sym new-at) lawful)
+            | inr other ↦
+                (let below : p < length m = omega (arith, length-push m n) in
+                subst (LawfulNode p) (sym (old-at p below)) (each p below))
           ]
 
       -- the new record is at no lower place
@@ -65,19 +65,19 @@ module _ (m : List TypeNode) (each : LawfulNodes m) (once : Once m) where
       more-once p q hp hq e =
           let size = length-push m n in
           elim (cases-eq p (length m)) [
-            inl p-last ↦
-              (elim (cases-eq q (length m)) [
-                inl q-last ↦ p-last ∙ sym q-last
-              | inr q-below ↦ absurd (last-only q p (omega arith) p-last (sym e))
-              ])
-          | inr p-below ↦
-              (elim (cases-eq q (length m)) [
-                inl q-last ↦ absurd (last-only p q (omega arith) q-last e)
-              | inr q-below ↦
-                  (let h : p < length m = omega arith in
-                  let i : q < length m = omega arith in
-                  once p q h i (sym (old-at p h) ∙ e ∙ old-at q i))
-              ])
+            | inl p-last ↦
+                (elim (cases-eq q (length m)) [
+                  | inl q-last ↦ p-last ∙ sym q-last
+                  | inr q-below ↦ absurd (last-only q p (omega arith) p-last (sym e))
+                ])
+            | inr p-below ↦
+                (elim (cases-eq q (length m)) [
+                  | inl q-last ↦ absurd (last-only p q (omega arith) q-last e)
+                  | inr q-below ↦
+                      (let h : p < length m = omega arith in
+                      let i : q < length m = omega arith in
+                      once p q h i (sym (old-at p h) ∙ e ∙ old-at q i))
+                ])
           ]
 
       grows-one : Grows m more

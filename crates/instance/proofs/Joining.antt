@@ -36,19 +36,19 @@ module _ (l : List TypeNode) (law : Lawful l) (m : List TypeNode) (places : List
   moved-lawful =
       let w = law .each n here in
       elim (cases-lt (x .kind) 2) [
-        inl leaf ↦
-          subst (LawfulNode (length m)) (sym (leaf-moved leaf))
-          (record { kinds = w .kinds; leaf = w .leaf; number = w .number; code = w .code; lower = λ two. absurd (omega (arith, two, leaf)) })
-      | inr two ↦
-          (let low = parts-lower two in
-          subst (LawfulNode (length m)) (sym (branch-moved two))
-          (record {
-            kinds = w .kinds;
-            leaf = λ leaf. absurd (omega (arith, two, leaf));
-            number = λ is. absurd (omega (arith, two, is));
-            code = λ is. absurd (omega (arith, two, is));
-            lower = λ _. (was .inside (x .left) (low .0), was .inside (x .right) (low .1));
-          }))
+        | inl leaf ↦
+            subst (LawfulNode (length m)) (sym (leaf-moved leaf))
+            (record { kinds = w .kinds; leaf = w .leaf; number = w .number; code = w .code; lower = λ two. absurd (omega (arith, two, leaf)) })
+        | inr two ↦
+            (let low = parts-lower two in
+            subst (LawfulNode (length m)) (sym (branch-moved two))
+            (record {
+              kinds = w .kinds;
+              leaf = λ leaf. absurd (omega (arith, two, leaf));
+              number = λ is. absurd (omega (arith, two, is));
+              code = λ is. absurd (omega (arith, two, is));
+              lower = λ _. (was .inside (x .left) (low .0), was .inside (x .right) (low .1));
+            }))
       ]
 
   module _ (m′ : List TypeNode) (at : ℕ) (kept : Keeps m m′ y at) where
@@ -63,17 +63,17 @@ module _ (l : List TypeNode) (law : Lawful l) (m : List TypeNode) (places : List
     new-type : type-at m′ at ≡ type-at l n
     new-type =
         elim (cases-lt (x .kind) 2) [
-          inl leaf ↦
-            ap (λ (z : TypeNode). shape (z .kind) (z .left) (reading at m′ (z .left)) (reading at m′ (z .right))) (kept .there ∙ leaf-moved leaf)
-            ∙ shape-same (x .kind) (x .left) _ _ _ _ (λ two. absurd (omega (arith, two, leaf)))
-        | inr two ↦
-            (let is = kept .there ∙ branch-moved two in
-            let low = parts-lower two in
-            let two′ : 2 ≤ getD m′ at zero-node .kind = subst (λ (z : TypeNode). 2 ≤ z .kind) (sym is) two in
-            at-branch m′ (grown .each) at (kept .inside) two′
-            ∙ ap (λ (z : TypeNode). branch (z .kind) (type-at m′ (z .left)) (type-at m′ (z .right))) is
-            ∙ ap₂ (branch (x .kind)) (still (x .left) (low .0)) (still (x .right) (low .1))
-            ∙ sym (at-branch l (law .each) n here two))
+          | inl leaf ↦
+              ap (λ (z : TypeNode). shape (z .kind) (z .left) (reading at m′ (z .left)) (reading at m′ (z .right))) (kept .there ∙ leaf-moved leaf)
+              ∙ shape-same (x .kind) (x .left) _ _ _ _ (λ two. absurd (omega (arith, two, leaf)))
+          | inr two ↦
+              (let is = kept .there ∙ branch-moved two in
+              let low = parts-lower two in
+              let two′ : 2 ≤ getD m′ at zero-node .kind = subst (λ (z : TypeNode). 2 ≤ z .kind) (sym is) two in
+              at-branch m′ (grown .each) at (kept .inside) two′
+              ∙ ap (λ (z : TypeNode). branch (z .kind) (type-at m′ (z .left)) (type-at m′ (z .right))) is
+              ∙ ap₂ (branch (x .kind)) (still (x .left) (low .0)) (still (x .right) (low .1))
+              ∙ sym (at-branch l (law .each) n here two))
         ]
 
     pub merged-more : n < length places → Merged l m′ (set places n at) (n + 1)
@@ -83,17 +83,17 @@ module _ (l : List TypeNode) (law : Lawful l) (m : List TypeNode) (places : List
           each = grown .each;
           once = grown .once;
           inside = λ p h.
-            elim (cases-eq p n) [
-              inl last ↦ subst (λ (i : ℕ). i < length m′) (sym (ap (λ (i : ℕ). getD (set places n at) i 0) last ∙ getD-set-same places n at 0 room)) (kept .inside)
-            | inr other ↦
-                (let old = was .inside p (omega arith) in
-                subst (λ (i : ℕ). i < length m′) (sym (getD-set-other places n p at 0 other)) (omega (arith, old, grown .longer)))
-            ];
+              elim (cases-eq p n) [
+                | inl last ↦ subst (λ (i : ℕ). i < length m′) (sym (ap (λ (i : ℕ). getD (set places n at) i 0) last ∙ getD-set-same places n at 0 room)) (kept .inside)
+                | inr other ↦
+                    (let old = was .inside p (omega arith) in
+                    subst (λ (i : ℕ). i < length m′) (sym (getD-set-other places n p at 0 other)) (omega (arith, old, grown .longer)))
+              ];
           same = λ p h.
-            elim (cases-eq p n) [
-              inl last ↦ ap (type-at m′) (ap (λ (i : ℕ). getD (set places n at) i 0) last ∙ getD-set-same places n at 0 room) ∙ new-type ∙ ap (type-at l) (sym last)
-            | inr other ↦ ap (type-at m′) (getD-set-other places n p at 0 other) ∙ still p (omega arith)
-            ];
+              elim (cases-eq p n) [
+                | inl last ↦ ap (type-at m′) (ap (λ (i : ℕ). getD (set places n at) i 0) last ∙ getD-set-same places n at 0 room) ∙ new-type ∙ ap (type-at l) (sym last)
+                | inr other ↦ ap (type-at m′) (getD-set-other places n p at 0 other) ∙ still p (omega arith)
+              ];
         }
 
 pub merged-none : (l : List TypeNode) (places : List ℕ) → Merged l [] places 0

@@ -63,15 +63,15 @@ module _ (l : List TypeNode) (each : (p : ℕ) → p < length l → LawfulNode p
       let y = getD l q zero-node in
       let k : x .kind ≡ y .kind = sym (kind-at l p) ∙ ap kind-of e ∙ kind-at l q in
       elim (cases-lt (x .kind) 2) [
-        inl leaf ↦
-          (let leaf′ : y .kind < 2 = omega arith in
-          once p q hp hq (same-node x y k (sym (number-at l p leaf) ∙ ap number-of e ∙ number-at l q leaf′) (each p hp .leaf leaf ∙ sym (each q hq .leaf leaf′))))
-      | inr two ↦
-          (let two′ : 2 ≤ y .kind = omega arith in
-          let parts = sym (at-branch l each p hp two) ∙ e ∙ at-branch l each q hq two′ in
-          let v = lower-at l each p hp two in
-          let w = lower-at l each q hq two′ in
-          once p q hp hq (same-node x y k
+        | inl leaf ↦
+            (let leaf′ : y .kind < 2 = omega arith in
+            once p q hp hq (same-node x y k (sym (number-at l p leaf) ∙ ap number-of e ∙ number-at l q leaf′) (each p hp .leaf leaf ∙ sym (each q hq .leaf leaf′))))
+        | inr two ↦
+            (let two′ : 2 ≤ y .kind = omega arith in
+            let parts = sym (at-branch l each p hp two) ∙ e ∙ at-branch l each q hq two′ in
+            let v = lower-at l each p hp two in
+            let w = lower-at l each q hq two′ in
+            once p q hp hq (same-node x y k
             (below n (x .left) (y .left) (omega (arith, v .0)) (omega (arith, v .0)) (omega (arith, w .0)) (ap left-of parts))
             (below n (x .right) (y .right) (omega (arith, v .1)) (omega (arith, v .1)) (omega (arith, w .1)) (ap right-of parts))))
       ]
@@ -86,23 +86,23 @@ NewUpTo l n = (p q : ℕ) → p < n → q < p → getD l q zero-node ≡ getD l 
 pub once-from-new : (l : List TypeNode) → NewUpTo l (length l) → Once l
 once-from-new l new p q hp hq e =
     elim (cases-order p q) [
-      inl same ↦ same
-    | inr apart ↦
-        (elim apart [
-          inl less ↦ absurd (new q p hq less e)
-        | inr more ↦ absurd (new p q hp more (sym e))
-        ])
+      | inl same ↦ same
+      | inr apart ↦
+          (elim apart [
+            | inl less ↦ absurd (new q p hq less e)
+            | inr more ↦ absurd (new p q hp more (sym e))
+          ])
     ]
 
 module _ (l : List TypeNode) (n : ℕ) (h : n < length l) where
   pub new-more : (m : ℕ) → m ≡ n → NewUpTo l n → Absent (take m l) (getD l n zero-node) → NewUpTo l (n + 1)
   new-more m is new absent p q hp hq e =
       elim (cases-eq p n) [
-        inl last ↦
-          (let inside : q < length (take m l) = simp length-take (omega arith) in
-          let less : q < m = omega arith in
-          absent q inside (getD-take m l q zero-node less ∙ e ∙ ap (λ (i : ℕ). getD l i zero-node) last))
-      | inr below ↦ new p q (omega arith) hq e
+        | inl last ↦
+            (let inside : q < length (take m l) = simp length-take (omega arith) in
+            let less : q < m = omega arith in
+            absent q inside (getD-take m l q zero-node less ∙ e ∙ ap (λ (i : ℕ). getD l i zero-node) last))
+        | inr below ↦ new p q (omega arith) hq e
       ]
 
   pub not-new : (m k : ℕ) → m ≡ n → k < length (take m l) → getD (take m l) k zero-node ≡ getD l n zero-node → Once l → ⊥

@@ -17,22 +17,22 @@ module _ (P : ℕ → ℕ → Type 0) (t t′ : List ℕ) (entry place : ℕ) (g
   pub gave-onto : OfPlaces t P → P entry place → OfPlaces t′ P
   gave-onto all new e q is =
       elim (cases-eq e entry) [
-        inl same ↦
-          (let q-is : place ≡ q = omega (arith, g .has, sym (ap (λ (i : ℕ). getD t′ i 0) same) ∙ is) in
-          subst (λ (i : ℕ). P i q) (sym same) (subst (P entry) q-is new))
-      | inr other ↦ all e q (sym (g .others e other) ∙ is)
+        | inl same ↦
+            (let q-is : place ≡ q = omega (arith, g .has, sym (ap (λ (i : ℕ). getD t′ i 0) same) ∙ is) in
+            subst (λ (i : ℕ). P i q) (sym same) (subst (P entry) q-is new))
+        | inr other ↦ all e q (sym (g .others e other) ∙ is)
       ]
 
   pub gave-back : OfPlaces t′ P → OfPlaces t P
   gave-back all e q is =
       elim (cases-eq e entry) [
-        inl same ↦
-          (let was : getD t entry 0 ≡ q + 1 = sym (ap (λ (i : ℕ). getD t i 0) same) ∙ is in
-          elim (g .had) [
-            inl free ↦ absurd (omega (arith, free, was))
-          | inr had ↦ all e q (ap (λ (i : ℕ). getD t′ i 0) same ∙ g .has ∙ sym had ∙ was)
-          ])
-      | inr other ↦ all e q (g .others e other ∙ is)
+        | inl same ↦
+            (let was : getD t entry 0 ≡ q + 1 = sym (ap (λ (i : ℕ). getD t i 0) same) ∙ is in
+            elim (g .had) [
+              | inl free ↦ absurd (omega (arith, free, was))
+              | inr had ↦ all e q (ap (λ (i : ℕ). getD t′ i 0) same ∙ g .has ∙ sym had ∙ was)
+            ])
+        | inr other ↦ all e q (g .others e other ∙ is)
       ]
 
 -- a cleared table

@@ -29,15 +29,15 @@ module _ (g s : List TypeNode) (place : ℕ) where
       record {
         below = omega arith;
         within =
-          record {
-            parts = λ j q _ e. one-given ns nodes-clear (λ _ x. x < length s) last place h inside j q e;
-            named = none-given vs variables-clear (λ _ x. x < length s);
-          };
+            record {
+              parts = λ j q _ e. one-given ns nodes-clear (λ _ x. x < length s) last place h inside j q e;
+              named = none-given vs variables-clear (λ _ x. x < length s);
+            };
         onto = λ σ is.
-          record {
-            parts = λ j q _ e. one-given ns nodes-clear (λ i x. apply σ (type-at g i) ≡ type-at s x) last place h is j q e;
-            named = none-given vs variables-clear (λ v x. σ v ≡ type-at s x);
-          };
+            record {
+              parts = λ j q _ e. one-given ns nodes-clear (λ i x. apply σ (type-at g i) ≡ type-at s x) last place h is j q e;
+              named = none-given vs variables-clear (λ v x. σ v ≡ type-at s x);
+            };
         back = λ σ p. p .parts last place (omega arith) (getD-set-same ns last (place + 1) 0 h);
       }
 

@@ -66,7 +66,13 @@ fn give(table: &mut [u16], at: u16, place: u16) -> bool
 }
 
 // Asks of the parts of a node of the general list what is asked of the node.
-fn step(general: &[TypeNode], special: &[TypeNode], at: usize, nodes: &mut [u16], variables: &mut [u16]) -> bool
+fn step(
+    general: &[TypeNode],
+    special: &[TypeNode],
+    at: usize,
+    nodes: &mut [u16],
+    variables: &mut [u16],
+) -> bool
     requires general { ⌜ Lawful (now general) ⌝ }
     requires special { ⌜ Lawful (now special) ⌝ }
     requires once { ⌜ Once (now special) ⌝ }
@@ -109,7 +115,13 @@ fn clear(table: &mut [u16])
 
 // Whether the type at a place of the special list is an instance of the general list's type. The two tables are room to
 // work in: the time is for their entries and for the nodes of the general list, however long the special one is.
-pub fn fits(general: &[TypeNode], special: &[TypeNode], place: u16, nodes: &mut [u16], variables: &mut [u16]) -> bool
+pub fn fits(
+    general: &[TypeNode],
+    special: &[TypeNode],
+    place: u16,
+    nodes: &mut [u16],
+    variables: &mut [u16],
+) -> bool
     requires general { ⌜ Lawful (now general) ⌝ }
     requires special { ⌜ Lawful (now special) ⌝ }
     requires once { ⌜ Once (now special) ⌝ }
@@ -139,7 +151,11 @@ fn with_places(node: TypeNode, places: &[u16]) -> TypeNode
     if node.kind < ARROW {
         return node;
     }
-    TypeNode { kind: node.kind, left: places[node.left as usize], right: places[node.right as usize] }
+    TypeNode {
+        kind: node.kind,
+        left: places[node.left as usize],
+        right: places[node.right as usize],
+    }
 }
 
 // The place of a record, and how many records there are.
@@ -160,7 +176,10 @@ fn keep(merged: &mut [TypeNode], count: usize, node: TypeNode) -> Keeping
         Some(place) => Keeping { place, count },
         None => {
             merged[count] = node;
-            Keeping { place: count, count: count + 1 }
+            Keeping {
+                place: count,
+                count: count + 1,
+            }
         }
     }
 }
@@ -193,11 +212,24 @@ pub fn is_instance(general: &[TypeNode], special: &[TypeNode]) -> Result<bool, I
     if !is_lawful(special) {
         return Err(InstanceFault::UnlawfulSpecial);
     }
-    let mut merged = [TypeNode { kind: 0, left: 0, right: 0 }; MOST_NODES];
+    let mut merged = [TypeNode {
+        kind: 0,
+        left: 0,
+        right: 0,
+    }; MOST_NODES];
     let mut places = [0u16; MOST_NODES];
     let mut nodes = [0u16; MOST_NODES];
     let mut variables = [0u16; MOST_NODES];
     let count = merge(special, &mut merged, &mut places);
     let place = places[special.len() - 1];
-    Ok(fits(general, &merged[0..count], place, &mut nodes, &mut variables))
+    Ok(fits(
+        general,
+        &merged[0..count],
+        place,
+        &mut nodes,
+        &mut variables,
+    ))
 }
+
+#[cfg(test)]
+mod tests;

@@ -17,11 +17,11 @@ returns-in-None c =
     let all : n - 0 ≡ n = omega arith in
     record {
       kept =
-        record {
-          inside = simp (length-take, length-set) (omega arith);
-          there = getD-take (n + 1) (set m n x) n zero-node (omega arith) ∙ getD-set-same m n x zero-node (c .pre);
-          grown = inr (take-more-set m n x (c .pre), subst (λ (i : ℕ). Absent (take i m) x) all (c .in-None .ensures tt));
-        };
+          record {
+            inside = simp (length-take, length-set) (omega arith);
+            there = getD-take (n + 1) (set m n x) n zero-node (omega arith) ∙ getD-set-same m n x zero-node (c .pre);
+            grown = inr (take-more-set m n x (c .pre), subst (λ (i : ℕ). Absent (take i m) x) all (c .in-None .ensures tt));
+          };
       few = omega arith;
       inside = omega arith;
     }
