@@ -1,5 +1,5 @@
 -- A list of records grows by one, and its places keep their types.
-use mathlib.Core.Path.{_≡_, refl, sym, ap, ap₂, subst, _∙_}
+use mathlib.Core.Path.{_≡_, refl, sym, ap, subst, _∙_}
 use mathlib.Core.List.{List, [], _∷_, _++_}
 use mathlib.Core.Logic.{_⊎_, inl, inr}
 use Prim.Native.Nat.{ℕ, zero, suc, _+_, _<_, _≤_}
@@ -8,7 +8,6 @@ use lib.ListN.{length, getD}
 use Rattle.std.proofs.shelf.Lists.{getD-append-left, getD-push, length-push}
 use Rattle.std.proofs.shelf.Tests.{cases-eq}
 use Rattle.types.specs.declared.TypeNode.{TypeNode}
-use Rattle.types.specs.Types.{Ty}
 use Rattle.types.specs.Lists.{zero-node, LawfulNode, shape, reading, type-at}
 use Rattle.instance.specs.Once.{Absent, Once}
 use Rattle.instance.proofs.Reading.{shape-same, lower-at}

@@ -1,20 +1,19 @@
 -- One more node is brought into the merged list.
-use mathlib.Core.Path.{_≡_, refl, sym, ap, ap₂, subst, _∙_}
-use mathlib.Core.List.{List, [], _∷_, _++_}
+use mathlib.Core.Path.{_≡_, sym, ap, ap₂, subst, _∙_}
+use mathlib.Core.List.{List}
 use mathlib.Core.Logic.{inl, inr}
-use Prim.Native.Nat.{ℕ, zero, suc, _+_, _<_, _≤_}
+use Prim.Native.Nat.{ℕ, _+_, _<_, _≤_}
 use native.Mathlib.Omega.{arith}
 use lib.Dec.{ltb}
 use lib.ListN.{length, getD, set}
 use Rattle.std.proofs.shelf.Lists.{getD-set-same, getD-set-other}
 use Rattle.std.proofs.shelf.Tests.{cases-eq, cases-lt, lt-ltb, le-ltb, cond-true, cond-false}
 use Rattle.types.specs.declared.TypeNode.{TypeNode}
-use Rattle.types.specs.Types.{Ty, branch}
+use Rattle.types.specs.Types.{branch}
 use Rattle.types.specs.Lists.{node, zero-node, LawfulNode, Lawful, shape, reading, type-at}
-use Rattle.instance.specs.Once.{Once}
 use Rattle.instance.specs.Merging.{moved, Keeps, Merged}
 use Rattle.instance.proofs.Reading.{shape-same, lower-at, at-branch}
-use Rattle.instance.proofs.Growing.{LawfulNodes, Grows, grows}
+use Rattle.instance.proofs.Growing.{Grows, grows}
 
 module _ (l : List TypeNode) (law : Lawful l) (m : List TypeNode) (places : List ℕ) (n : ℕ) (here : n < length l) (was : Merged l m places n) where
   abbrev x : TypeNode
@@ -95,18 +94,3 @@ module _ (l : List TypeNode) (law : Lawful l) (m : List TypeNode) (places : List
                 | inr other ↦ ap (type-at m′) (getD-set-other places n p at 0 other) ∙ still p (omega arith)
               ];
         }
-
-pub merged-none : (l : List TypeNode) (places : List ℕ) → Merged l [] places 0
-merged-none l places =
-    record {
-      few = omega arith;
-      each = λ p h. absurd (omega arith);
-      once = λ p q h i e. absurd (omega arith);
-      inside = λ p h. absurd (omega arith);
-      same = λ p h. absurd (omega arith);
-    }
-
--- a merged list of some nodes is lawful
-pub merged-lawful : (l m : List TypeNode) (places : List ℕ) (n : ℕ) → Merged l m places n → 0 < n → n ≤ 4096 → Lawful m
-merged-lawful l m places n w some few =
-    record { some = omega (arith, w .inside 0 some); few = omega (arith, w .few); each = w .each }

@@ -48,11 +48,11 @@ shape-number (suc (suc k)) n a b h = absurd (omega arith)
 pub kind-at : (l : List TypeNode) (p : ℕ) → kind-of (type-at l p) ≡ getD l p zero-node .kind
 kind-at l p = shape-kind _ _ _ _
 
-pub number-at : (l : List TypeNode) (p : ℕ) → getD l p zero-node .kind < 2 → number-of (type-at l p) ≡ getD l p zero-node .left
+number-at : (l : List TypeNode) (p : ℕ) → getD l p zero-node .kind < 2 → number-of (type-at l p) ≡ getD l p zero-node .left
 number-at l p h = shape-number _ _ _ _ h
 
 -- records with equal fields are equal
-pub same-node : (x y : TypeNode) → x .kind ≡ y .kind → x .left ≡ y .left → x .right ≡ y .right → x ≡ y
+same-node : (x y : TypeNode) → x .kind ≡ y .kind → x .left ≡ y .left → x .right ≡ y .right → x ≡ y
 same-node x y e f g = ap (λ (k : ℕ). node k (x .left) (x .right)) e ∙ ap₂ (node (y .kind)) f g
 
 module _ (l : List TypeNode) (each : (p : ℕ) → p < length l → LawfulNode p (getD l p zero-node)) (once : Once l) where

@@ -1,9 +1,9 @@
 -- Bytes written over a memory, one piece after the other.
 use mathlib.Core.Path.{_≡_, refl, sym, ap, ap₂, _∙_}
-use mathlib.Core.List.{List, [], _∷_, _++_}
-use Prim.Native.Nat.{ℕ, _+_, _≤_, _<_}
+use mathlib.Core.List.{List, _++_}
+use Prim.Native.Nat.{ℕ, _+_, _≤_}
 use native.Mathlib.Omega.{arith}
-use lib.ListN.{length, take, drop, set}
+use lib.ListN.{length}
 use lib.Seq.{paste}
 use Rattle.std.proofs.shelf.Lists.{length-append}
 use Rattle.std.proofs.shelf.Edits.{paste-all, paste-paste, length-paste}
@@ -12,10 +12,10 @@ use Rattle.printing.specs.Writing.{over, Wrote}
 pub over-paste : (m : List ℕ) (at : ℕ) (s : List ℕ) → paste m at s (length s) ≡ over m at s
 over-paste m at s = paste-all m at s (length s) refl
 
-pub over-length : (m : List ℕ) (at : ℕ) (s : List ℕ) → at + length s ≤ length m → length (over m at s) ≡ length m
+over-length : (m : List ℕ) (at : ℕ) (s : List ℕ) → at + length s ≤ length m → length (over m at s) ≡ length m
 over-length m at s h = ap length (sym (over-paste m at s)) ∙ length-paste m at s (length s) h (omega arith)
 
-pub over-over : (m : List ℕ) (at : ℕ) (s t : List ℕ) → at ≤ length m → over (over m at s) (at + length s) t ≡ over m at (s ++ t)
+over-over : (m : List ℕ) (at : ℕ) (s t : List ℕ) → at ≤ length m → over (over m at s) (at + length s) t ≡ over m at (s ++ t)
 over-over m at s t h =
     ap (λ (x : List ℕ). over x (at + length s) t) (sym (over-paste m at s))
     ∙ sym (over-paste (paste m at s (length s)) (at + length s) t)

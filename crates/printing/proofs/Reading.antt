@@ -1,4 +1,4 @@
--- What stands at a place of a lawful list, by the kind of its node.
+-- What stands at a place of a list of lawful nodes, by the kind of the node there.
 use mathlib.Core.Path.{_≡_, refl, ap₂, _∙_}
 use mathlib.Core.List.{List}
 use Prim.Native.Nat.{ℕ, zero, suc, _<_, _≤_}
@@ -6,7 +6,7 @@ use native.Mathlib.Omega.{arith}
 use lib.ListN.{length, getD}
 use Rattle.types.specs.declared.TypeNode.{TypeNode}
 use Rattle.types.specs.Types.{Ty, variable, base, branch}
-use Rattle.types.specs.Lists.{zero-node, LawfulNode, Lawful, shape, reading, type-at}
+use Rattle.types.specs.Lists.{zero-node, LawfulNode, shape, reading, type-at}
 
 shape-variable : (k n : ℕ) (a b : Ty) → k ≡ 0 → shape k n a b ≡ variable n
 shape-variable zero n a b e = refl
@@ -23,15 +23,15 @@ shape-branch (suc zero) n a b h = absurd (omega arith)
 shape-branch (suc (suc k)) n a b h = refl
 
 -- a leaf does not depend on its parts
-shape-same : (k n : ℕ) (a b x y : Ty) → (2 ≤ k → (a ≡ x) × (b ≡ y)) → shape k n a b ≡ shape k n x y
+pub shape-same : (k n : ℕ) (a b x y : Ty) → (2 ≤ k → (a ≡ x) × (b ≡ y)) → shape k n a b ≡ shape k n x y
 shape-same zero n a b x y parts = refl
 shape-same (suc zero) n a b x y parts = refl
 shape-same (suc (suc k)) n a b x y parts = let w = parts (omega arith) in ap₂ (branch (suc (suc k))) (w .0) (w .1)
 
-module _ (l : List TypeNode) (law : Lawful l) where
+module _ (l : List TypeNode) (each : (p : ℕ) → p < length l → LawfulNode p (getD l p zero-node)) where
   -- the parts of a branch stand lower
   pub lower-at : (p : ℕ) → p < length l → 2 ≤ getD l p zero-node .kind → (getD l p zero-node .left < p) × (getD l p zero-node .right < p)
-  lower-at p h = law .each p h .lower
+  lower-at p h = each p h .lower
 
   -- any depth above the place reads the same
   any-depth : (d e p : ℕ) → p < length l → p < d → p < e → reading d l p ≡ reading e l p

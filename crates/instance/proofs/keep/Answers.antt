@@ -1,9 +1,8 @@
-use mathlib.Core.Path.{_≡_, ap, subst, _∙_}
-use mathlib.Core.List.{List}
+use mathlib.Core.Path.{_≡_, subst, _∙_}
 use mathlib.Core.Logic.{inr}
-use Prim.Native.Nat.{ℕ, _+_, _-_, _<_}
+use Prim.Native.Nat.{ℕ, _+_, _-_}
 use native.Mathlib.Omega.{arith}
-use lib.ListN.{length, take, set}
+use lib.ListN.{take, set}
 use Rattle.std.proofs.shelf.Lists.{length-take, length-set, getD-take, getD-set-same, take-more-set}
 use Rattle.types.specs.Lists.{zero-node}
 use Rattle.instance.specs.Once.{Absent}

@@ -1,6 +1,6 @@
 use mathlib.Core.Path.{_≡_, sym, subst, ap, _∙_}
-use mathlib.Core.List.{List, _++_}
-use Prim.Native.Nat.{ℕ, _+_, _-_, _≤_, _<_}
+use mathlib.Core.List.{List}
+use Prim.Native.Nat.{ℕ, _-_, _<_}
 use native.Mathlib.Omega.{arith}
 use lib.Chars.{codes}
 use lib.ListN.{length, getD, take}
@@ -10,7 +10,7 @@ use Rattle.printing.specs.Text.{text, left-text}
 use Rattle.printing.specs.Writing.{Wrote}
 use Rattle.printing.proofs.Reading.{lower-at}
 use Rattle.printing.proofs.Lengths.{text-variable, text-arrow, arrow-long, left-bracketed, bracketed-long}
-use Rattle.printing.proofs.Over.{three-pieces, over-length}
+use Rattle.printing.proofs.Over.{three-pieces}
 use Rattle.printing.proofs.+write+write_left.Needs as need
 
 -- what is written does not depend on how the bytes are named
@@ -30,7 +30,7 @@ module _ (l : List TypeNode) (law : Lawful l) (p : ℕ) (h : p < length l) (bran
   is-two = let k = law .each p h .kinds in omega (arith, k)
 
   parts-lower : (getD l p zero-node .left < p) × (getD l p zero-node .right < p)
-  parts-lower = let two = is-two in lower-at l law p h (omega arith)
+  parts-lower = let two = is-two in lower-at l (law .each) p h (omega arith)
 
 pub write-write-left-left-end-requires : need.write-write-left-left-end-requires
 write-write-left-left-end-requires t c κs =

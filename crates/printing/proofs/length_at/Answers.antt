@@ -1,8 +1,4 @@
-use mathlib.Core.Path.{_≡_}
-use Prim.Native.Nat.{ℕ, _≤_, _<_}
 use native.Mathlib.Omega.{arith}
-use lib.ListN.{getD, length}
-use Rattle.types.specs.Lists.{zero-node}
 use Rattle.printing.proofs.Lengths.{arrow-capped}
 use Rattle.printing.proofs.length_at.Needs as need
 
