@@ -1,0 +1,4 @@
+pub mod Once
+pub mod Merging
+pub mod Matching
+pub mod Deciding

@@ -1,0 +1,4 @@
+pub mod Spelling
+pub mod Over
+pub mod Reading
+pub mod Lengths
