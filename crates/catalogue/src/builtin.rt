@@ -2,6 +2,7 @@
 ghost use mathlib.Core.Path.{_≡_};
 ghost use Prim.Native.Nat.{ℕ, _≤_};
 ghost use lib.ListN.{length, getD};
+ghost use Rattle.catalogue.specs.Entries.{no-entry};
 ghost use Rattle.catalogue.specs.Table.{builtin as the-table};
 ghost use Rattle.catalogue.specs.Lawfulness.{table-few, table-lawful};
 use crate::interface::Catalogue;
@@ -210,5 +211,17 @@ pub impl Catalogue for Builtin as BuiltinCatalogue {
             };
         }
         list[i as usize]
+    }
+}
+
+impl Builtin {
+    // The name of entry k, empty where there is no entry k.
+    pub fn name(&self, k: u16) -> &'static [u8]
+        ensures { λ r. ⌜ now r ≡ getD the-table k no-entry .name ⌝ }
+    {
+        if k >= COUNT {
+            return b"";
+        }
+        ROWS[k as usize].name
     }
 }
