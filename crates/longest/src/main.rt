@@ -1,7 +1,38 @@
 // Brings lists of the greatest length to their normal lists: types whose trees have up to 2^4095 leaves.
+ghost use mathlib.Core.Bool.{true};
+ghost use mathlib.Core.Path.{_≡_};
 use std::io;
 use types::TypeNode;
+use walk::Looped;
 use walk::Refused;
+
+// Whether the graph of one node, an arrow from itself to itself, has no solution.
+fn self_arrow_loops() -> bool
+    ensures { λ r. ⌜ r ≡ true ⌝ }
+{
+    let mut memory = [TypeNode {
+        kind: 2,
+        left: 0,
+        right: 0,
+    }; 1];
+    let mut roots = [0u32; 1];
+    let mut marks = [0u32; 1];
+    let mut origins = [0u32; 1];
+    let mut heads = [0u32; 1];
+    let mut nexts = [0u32; 1];
+    match walk::list_types(
+        &mut memory,
+        1,
+        &mut roots,
+        &mut marks,
+        &mut origins,
+        &mut heads,
+        &mut nexts,
+    ) {
+        Ok(_) => false,
+        Err(Looped::Loop) => true,
+    }
+}
 
 fn main(rt: LibcRuntime) -> io::Result<()> {
     let mut list = [TypeNode {
@@ -82,6 +113,9 @@ fn main(rt: LibcRuntime) -> io::Result<()> {
             memory[2048].left,
             memory[2048].right
         )?;
+    }
+    if self_arrow_loops() {
+        println!(rt, "an arrow from itself: a loop")?;
     }
     // a node that is no type, and a memory that is too short
     list[17] = TypeNode {
