@@ -1,7 +1,7 @@
 // The types of a term: a pass over its nodes in prefix order builds a type graph, whose solutions are the typings.
 ghost use mathlib.Core.Path.{_≡_};
-ghost use Prim.Native.Nat.{ℕ, _+_, _*_, _-_, _<_, _≤_};
-ghost use lib.ListN.{length, getD, take, drop};
+ghost use Prim.Native.Nat.{_+_, _-_, _<_, _≤_};
+ghost use lib.ListN.{length, take, drop};
 ghost use Rattle.graph.specs.Graph.{graph, Sound};
 ghost use Rattle.copy.specs.Told.{Told};
 ghost use Rattle.infer.specs.Heads.{leaf-of, head-of, leaf-need, head-need, need};
