@@ -1,7 +1,7 @@
 // The types of a term: a pass over its nodes in prefix order builds a type graph, whose solutions are the typings.
 ghost use mathlib.Core.Path.{_≡_};
-ghost use Prim.Native.Nat.{ℕ, _+_, _*_, _-_, _<_, _≤_};
-ghost use lib.ListN.{length, getD, take, drop};
+ghost use Prim.Native.Nat.{_+_, _-_, _<_, _≤_};
+ghost use lib.ListN.{length, take, drop};
 ghost use Rattle.graph.specs.Graph.{graph, Sound};
 ghost use Rattle.copy.specs.Told.{Told};
 ghost use Rattle.infer.specs.Heads.{leaf-of, head-of, leaf-need, head-need, need};
@@ -17,7 +17,7 @@ use types::VARIABLE;
 
 // A term node without parts.
 #[derive(Clone, Copy)]
-pub enum Leaf {
+enum Leaf {
     Nothing,
     Variable(u16),
     Primitive(u16),
@@ -26,7 +26,7 @@ pub enum Leaf {
 
 // A term node by its kind.
 #[derive(Clone, Copy)]
-pub enum Head {
+enum Head {
     Single(Leaf),
     Abstraction,
     Application,
@@ -62,10 +62,10 @@ const UNKNOWN: TypeNode = TypeNode {
 
 // The graph node of a subterm, the place after it, and how many records of the memory are used then.
 #[derive(Clone, Copy)]
-pub struct Found {
-    pub node: u16,
-    pub next: usize,
-    pub used: usize,
+struct Found {
+    node: u16,
+    next: usize,
+    used: usize,
 }
 
 // The type of functions from `a` to `b`.
@@ -297,6 +297,3 @@ pub fn infer<E: Source, K: Source>(
         None
     }
 }
-
-#[cfg(test)]
-mod tests;

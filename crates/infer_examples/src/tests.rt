@@ -1,10 +1,22 @@
 // Small terms, run: what is recorded, and which nodes are refused.
 ghost use mathlib.Core.List.{[]};
 ghost use native.Mathlib.Nat.{lt-irrefl};
-use super::*;
+use copy::Source;
+use infer::infer;
+use infer::needed;
 use std::test::*;
+use term::TermNode;
+use types::ARROW;
+use types::TypeNode;
 use types::TypeNodeDebug;
 use types::TypeNodePartialEq;
+use types::VARIABLE;
+
+const UNKNOWN: TypeNode = TypeNode {
+    kind: VARIABLE,
+    left: 0,
+    right: 0,
+};
 
 // No lists at all.
 struct Nothing;

@@ -1,0 +1,3 @@
+// Examples of inference, run on small terms.
+#[cfg(test)]
+mod tests;
