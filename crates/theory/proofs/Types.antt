@@ -7,6 +7,7 @@ use lib.ListN.{length, getD}
 use Rattle.std.proofs.shelf.Lists.{length-append, length-map, getD-append-left, getD-map}
 use Rattle.types.specs.declared.TypeNode.{TypeNode}
 use Rattle.types.specs.Types.{Ty, base, arrow, apply}
+use Rattle.types.specs.Lists.{meaning}
 use Rattle.term.specs.Terms.{Term, variable, abstraction, application, primitive, reference}
 use Rattle.normal.proofs.Meaning.{apply-apply}
 use Rattle.copy.specs.Instances.{Lists, OfList}
@@ -18,28 +19,32 @@ use Rattle.theory.specs.Laws.{Typings-give-types, Types-have-instances, Outer-
 pub typings-give-types : Typings-give-types
 typings-give-types E K Γ t i = (λ T d. typing-gives E K t Γ T i d, λ τ d. type-typing E K t Γ τ i d)
 
--- a map of types that keeps arrows, and instances of the lists' types
+-- f and a substitution can change places around t
+abbrev pub Over : (Ty → Ty) → Ty → Type 0
+Over f t = (σ : ℕ → Ty) → f (apply σ t) ≡ apply (λ i. f (σ i)) t
+
+pub of-list-over : (l : List TypeNode) (f : Ty → Ty) (τ : Ty) → Over f (meaning l) → OfList l τ → OfList l (f τ)
+of-list-over l f τ over d = record { some = d .some; instance = ((λ i. f (d .instance .0 i)), sym (over (d .instance .0)) ∙ ap f (d .instance .1)) }
+
+-- f keeps arrows, and instances of the lists' types
 pub record Carries (E K : Lists) (f : Ty → Ty) : Type 0 where
   pub arrows : (a b : Ty) → f (arrow a b) ≡ arrow (f a) (f b)
-  pub primitives : (k : ℕ) (τ : Ty) → OfList (E k) τ → OfList (E k) (f τ)
-  pub references : (n : ℕ) (τ : Ty) → OfList (K n) τ → OfList (K n) (f τ)
+  pub primitives : (k : ℕ) → 0 < length (E k) → Over f (meaning (E k))
+  pub references : (n : ℕ) → 0 < length (K n) → Over f (meaning (K n))
 
 module _ (E K : Lists) (f : Ty → Ty) (c : Carries E K f) where
-  -- carries types of terms to types of terms
+  -- then it carries types of terms to types of terms
   pub carried : (t : Term) (Γ : List Ty) (τ : Ty) → HasType E K Γ t τ → HasType E K (map f Γ) t (f τ)
   carried (variable n) Γ τ d = (omega (arith, d .0, length-map Γ f), getD-map f Γ n (base 0) (base 0) (d .0) ∙ ap f (d .1))
   carried (abstraction b) Γ τ d = (f (d .0), f (d .1), ap f (d .2) ∙ c .arrows (d .0) (d .1), carried b (d .0 ∷ Γ) (d .1) (d .3))
   carried (application g a) Γ τ d =
       (f (d .0), subst (HasType E K (map f Γ) g) (c .arrows (d .0) τ) (carried g Γ (arrow (d .0) τ) (d .1)), carried a Γ (d .0) (d .2))
-  carried (primitive k) Γ τ d = c .primitives k τ d
-  carried (reference n) Γ τ d = c .references n τ d
-
-instance-again : (l : List TypeNode) (σ : ℕ → Ty) (τ : Ty) → OfList l τ → OfList l (apply σ τ)
-instance-again l σ τ d = record { some = d .some; instance = ((λ i. apply σ (d .instance .0 i)), sym (apply-apply σ (d .instance .0) _) ∙ ap (apply σ) (d .instance .1)) }
+  carried (primitive k) Γ τ d = of-list-over (E k) f τ (c .primitives k (d .some)) d
+  carried (reference n) Γ τ d = of-list-over (K n) f τ (c .references n (d .some)) d
 
 pub types-have-instances : Types-have-instances
 types-have-instances E K Γ t τ σ d =
-    carried E K (apply σ) record { arrows = λ a b. refl; primitives = λ k ρ o. instance-again (E k) σ ρ o; references = λ n ρ o. instance-again (K n) σ ρ o } t Γ τ d
+    carried E K (apply σ) record { arrows = λ a b. refl; primitives = λ k h ρ. apply-apply σ ρ (meaning (E k)); references = λ n h ρ. apply-apply σ ρ (meaning (K n)) } t Γ τ d
 
 module _ (E K : Lists) (Δ Θ : List Ty) where
   binders-idle : (t : Term) (Γ : List Ty) (τ : Ty) → Closed (length Γ) t → HasType E K (Γ ++ Δ) t τ → HasType E K (Γ ++ Θ) t τ

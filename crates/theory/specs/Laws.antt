@@ -10,11 +10,11 @@ use Rattle.types.specs.Lists.{Lawful, meaning}
 use Rattle.term.specs.Terms.{Term}
 use Rattle.normal.specs.Normal.{normal-of}
 use Rattle.normal.specs.Laws.{Proper, Simple}
-use Rattle.copy.specs.Instances.{Lists}
+use Rattle.copy.specs.Instances.{Lists, OfList}
 use Rattle.infer.specs.Typing.{Typing, HasType}
 use Rattle.theory.specs.Closed.{Closed, Below}
 use Rattle.theory.specs.Expansion.{expand}
-use Rattle.theory.specs.Principal.{MostGeneral, Typeless, none, Has, Typable, Principal, Kept}
+use Rattle.theory.specs.Principal.{MostGeneral, Typeless, none, Typable, Principal, LawfulLists, KeptRow, Kept}
 
 -- The types of a term are those that its typings give the root.
 abbrev pub Typings-give-types : Type 0
@@ -44,6 +44,12 @@ Expansions-whole = (xs : List Term) (t : Term) → All (Below 0) xs → Below (l
 -- Rows filed later leave it as it is.
 abbrev pub Expansions-last : Type 0
 Expansions-last = (xs ys : List Term) (t : Term) → Below (length xs) t → expand (xs ++ ys) t ≡ expand xs t
+
+-- The instances of what a kept list means are exactly the types of its row's expansion, wherever that stands.
+abbrev pub Types-of-rows : Type 0
+Types-of-rows =
+    (E : Lists) (x : Term) (l : List TypeNode) → KeptRow E x l → (Γ : List Ty) (τ : Ty)
+    → (OfList l τ → HasType E none Γ x τ) × (HasType E none Γ x τ → OfList l τ)
 
 -- By instances of the kept types a formula has exactly the types of its expansion.
 abbrev pub Types-of-expansions : Type 0
@@ -85,6 +91,14 @@ Principal-renamed = (E K : Lists) (t : Term) (τ σ : Ty) → MostGeneral E K t 
 abbrev pub Principal-is-proper : Type 0
 Principal-is-proper = (E K : Lists) (t : Term) (τ : Ty) → MostGeneral E K t τ → Proper τ
 
--- So its normal list means a principal type.
+-- With lawful lists it is made of variables, bases with codes up to 5, and arrows.
+abbrev pub Principal-is-simple : Type 0
+Principal-is-simple = (E K : Lists) (t : Term) (τ : Ty) → LawfulLists E → LawfulLists K → MostGeneral E K t τ → Simple τ
+
+-- The normal list of a principal type means a principal type.
 abbrev pub Normal-is-principal : Type 0
 Normal-is-principal = (E K : Lists) (t : Term) (τ : Ty) → MostGeneral E K t τ → MostGeneral E K t (meaning (normal-of τ))
+
+-- So it may be kept, if it is not too long.
+abbrev pub Normal-is-kept : Type 0
+Normal-is-kept = (E : Lists) (x : Term) (τ : Ty) → LawfulLists E → Closed 0 x → Principal E x τ → length (normal-of τ) ≤ 4096 → KeptRow E x (normal-of τ)

@@ -21,6 +21,10 @@ pub record MostGeneral (E K : Lists) (t : Term) (τ : Ty) : Type 0 where
 abbrev pub Typeless : Lists → Lists → Term → Type 0
 Typeless E K t = (τ : Ty) → HasType E K [] t τ → ⊥
 
+-- each list that has nodes is lawful
+abbrev pub LawfulLists : Lists → Type 0
+LawfulLists K = (n : ℕ) → 0 < length (K n) → Lawful (K n)
+
 -- no kept lists: a reference has no type
 abbrev pub none : Lists
 none n = []
