@@ -84,7 +84,7 @@ Kept-grows =
 
 -- The first rows are kept without the others.
 abbrev pub Kept-shrinks : Type 0
-Kept-shrinks = (E : Lists) (xs ys : List Term) (K : Lists) → Kept E (xs ++ ys) K → Kept E xs K
+Kept-shrinks = (E : Lists) (xs ys : List Term) (K L : Lists) → Kept E (xs ++ ys) K → ((n : ℕ) → n < length xs → K n ≡ L n) → Kept E xs L
 
 -- Two principal types of a term are instances of each other and have one normal list.
 abbrev pub Principal-is-one : Type 0
