@@ -1,10 +1,10 @@
 -- A formula typed by instances of kept types has exactly the types of its expansion.
-use mathlib.Core.Path.{_≡_, refl, sym, ap, subst, _∙_}
+use mathlib.Core.Path.{_≡_, sym, subst}
 use mathlib.Core.List.{List, [], _∷_, _++_}
 use mathlib.Core.Logic.{⊎-elim}
-use Prim.Native.Nat.{ℕ, _+_, _<_, _≤_}
+use Prim.Native.Nat.{ℕ, _<_, _≤_}
 use native.Mathlib.Omega.{arith}
-use lib.ListN.{length, getD}
+use lib.ListN.{length}
 use Rattle.std.specs.shelf.Lists.{All}
 use Rattle.std.proofs.shelf.Lists.{length-append, getD-append-left, getD-default, getD-push}
 use Rattle.std.proofs.shelf.Elements.{all-from-getD}
@@ -13,14 +13,17 @@ use Rattle.types.specs.declared.TypeNode.{TypeNode}
 use Rattle.types.specs.Types.{Ty, arrow}
 use Rattle.types.specs.Lists.{Lawful, meaning}
 use Rattle.term.specs.Terms.{Term, variable, abstraction, application, primitive, reference}
-use Rattle.copy.specs.Instances.{Lists, OfList}
+use Rattle.copy.specs.Instances.{Lists}
 use Rattle.infer.specs.Typing.{HasType}
 use Rattle.theory.specs.Closed.{Closed, Below}
 use Rattle.theory.specs.Expansion.{row, expand}
-use Rattle.theory.specs.Principal.{MostGeneral, none, Principal, KeptRow, Kept}
+use Rattle.theory.specs.Principal.{none, Principal, KeptRow, Kept}
 use Rattle.theory.specs.Laws.{Types-of-rows, Types-of-expansions, Principal-of-expansions, Typeless-expansions, Kept-grows, Kept-shrinks}
-use Rattle.theory.proofs.Types.{types-have-instances, outer-binders-idle}
-use Rattle.theory.proofs.Expansions.{expansions-closed}
+use Rattle.theory.proofs.Types.{typed-is-closed, types-have-instances, outer-binders-idle}
+
+-- closedness comes with the type
+pub kept-row : (E : Lists) (x : Term) (l : List TypeNode) → Lawful l → Principal E x (meaning l) → KeptRow E x l
+kept-row E x l lawful m = record { lawful = lawful; closed = typed-is-closed E none [] x (meaning l) (m .has); principal = m }
 
 pub types-of-rows : Types-of-rows
 types-of-rows E x l k Γ τ = (
@@ -60,18 +63,24 @@ principal-of-expansions E xs K kept t τ b = (
 pub typeless-expansions : Typeless-expansions
 typeless-expansions E xs K kept t b = (λ never d. never (d .0) (collapsed E xs K kept t [] (d .0) b (d .1)), λ never τ d. never (τ, expanded E xs K kept t [] τ b d))
 
+module _ (E K L : Lists) (xs ys : List Term) (alike : (n : ℕ) → n < length xs → K n ≡ L n) where
+  -- whether the later rows are there does not matter for the first
+  row-grows : (n : ℕ) → n < length xs → KeptRow E (row xs n) (K n) → KeptRow E (row (xs ++ ys) n) (L n)
+  row-grows n h k = subst (λ (y : Term). KeptRow E y (L n)) (sym (getD-append-left xs ys (reference n) n h)) (subst (KeptRow E (row xs n)) (alike n h) k)
+
+  row-shrinks : (n : ℕ) → n < length xs → KeptRow E (row (xs ++ ys) n) (K n) → KeptRow E (row xs n) (L n)
+  row-shrinks n h k = subst (λ (y : Term). KeptRow E y (L n)) (getD-append-left xs ys (reference n) n h) (subst (KeptRow E (row (xs ++ ys) n)) (alike n h) k)
+
 pub kept-grows : Kept-grows
-kept-grows E xs K L t kept alike closed b lawful m n h =
+kept-grows E xs K L t kept alike b lawful m n h =
     let x : Term = expand xs t in
-    let new : KeptRow E x (L (length xs)) = record { lawful = lawful; closed = expansions-closed xs 0 t (kept-closed E xs K kept) closed; principal = principal-of-expansions E xs K kept t (meaning (L (length xs))) b .0 m } in
+    let new = kept-row E x (L (length xs)) lawful (principal-of-expansions E xs K kept t (meaning (L (length xs))) b .0 m) in
     ⊎-elim
-    (λ (old : n < length xs).
-        subst (λ (y : Term). KeptRow E y (L n)) (sym (getD-append-left xs (x ∷ []) (reference n) n old)) (subst (KeptRow E (row xs n)) (alike n old) (kept n old)))
+    (λ (old : n < length xs). row-grows E K L xs (x ∷ []) alike n old (kept n old))
     (λ (past : length xs ≤ n).
-        let e : length xs ≡ n = omega (arith, length-append xs (x ∷ [])) in
-        subst (λ (y : Term). KeptRow E y (L n)) (sym (getD-push xs x (reference n) n e)) (subst (λ (k : ℕ). KeptRow E x (L k)) e new))
+    let e : length xs ≡ n = omega (arith, length-append xs (x ∷ [])) in
+    subst (λ (y : Term). KeptRow E y (L n)) (sym (getD-push xs x (reference n) n e)) (subst (λ (k : ℕ). KeptRow E x (L k)) e new))
     (cases-lt n (length xs))
 
 pub kept-shrinks : Kept-shrinks
-kept-shrinks E xs ys K kept n h =
-    subst (λ (y : Term). KeptRow E y (K n)) (getD-append-left xs ys (reference n) n h) (kept n (omega (arith, length-append xs ys)))
+kept-shrinks E xs ys K L kept alike n h = row-shrinks E K L xs ys alike n h (kept n (omega (arith, length-append xs ys)))

@@ -1,7 +1,7 @@
 -- Principal types are one up to the numbers of their variables, and have normal lists.
-use mathlib.Core.Path.{_≡_, refl, sym, ap, ap₂, subst, _∙_}
+use mathlib.Core.Path.{_≡_, refl, sym, ap, subst, _∙_}
 use mathlib.Core.List.{List, [], _∷_}
-use mathlib.Core.Bool.{Bool, true, false, cond}
+use mathlib.Core.Bool.{cond}
 use mathlib.Core.Logic.{⊎-elim}
 use Prim.Native.Nat.{ℕ, zero, suc, _-_, _<_, _≤_}
 use native.Mathlib.Omega.{arith}
@@ -18,9 +18,10 @@ use Rattle.normal.proofs.Meaning.{apply-apply, normal-lawful}
 use Rattle.normal.proofs.Rename.{mutual-keeps-list, one-list-iff-mutual, normal-again}
 use Rattle.copy.specs.Instances.{Lists}
 use Rattle.infer.specs.Typing.{HasType}
-use Rattle.theory.specs.Principal.{MostGeneral, LawfulLists, none, KeptRow}
+use Rattle.theory.specs.Principal.{MostGeneral, none}
 use Rattle.theory.specs.Laws.{Principal-is-one, Principal-renamed, Principal-is-proper, Principal-is-simple, Normal-is-principal, Normal-is-kept}
 use Rattle.theory.proofs.Types.{Over, Carries, carried, types-have-instances}
+use Rattle.theory.proofs.Kept.{kept-row}
 
 pub principal-is-one : Principal-is-one
 principal-is-one E K t τ σ m n = let i = m .most σ (n .has) in let j = n .most τ (m .has) in (i, j, mutual-keeps-list τ σ i j)
@@ -151,6 +152,6 @@ normal-is-principal E K t τ m =
     principal-renamed E K t τ (meaning l) m (both .1) (both .0)
 
 pub normal-is-kept : Normal-is-kept
-normal-is-kept E x τ lawful closed m few =
+normal-is-kept E x τ lawful m few =
     let simple = principal-is-simple E none x τ lawful (λ n h. absurd (omega arith)) m in
-    record { lawful = normal-lawful (τ ∷ []) (simple, tt) (omega arith) few; closed = closed; principal = normal-is-principal E none x τ m }
+    kept-row E x (normal-of τ) (normal-lawful (τ ∷ []) (simple, tt) (omega arith) few) (normal-is-principal E none x τ m)

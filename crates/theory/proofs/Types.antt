@@ -1,9 +1,9 @@
 -- What types of terms depend on.
 use mathlib.Core.Path.{_≡_, refl, sym, ap, subst, _∙_}
-use mathlib.Core.List.{List, [], _∷_, _++_, map}
-use Prim.Native.Nat.{ℕ, suc, _+_, _<_, _≤_}
+use mathlib.Core.List.{List, _∷_, _++_, map}
+use Prim.Native.Nat.{ℕ, _<_}
 use native.Mathlib.Omega.{arith}
-use lib.ListN.{length, getD}
+use lib.ListN.{length}
 use Rattle.std.proofs.shelf.Lists.{length-append, length-map, getD-append-left, getD-map}
 use Rattle.types.specs.declared.TypeNode.{TypeNode}
 use Rattle.types.specs.Types.{Ty, base, arrow, apply}
@@ -14,10 +14,24 @@ use Rattle.copy.specs.Instances.{Lists, OfList}
 use Rattle.infer.specs.Typing.{HasType}
 use Rattle.infer.proofs.Typings.{typing-gives, type-typing}
 use Rattle.theory.specs.Closed.{Closed, Below}
-use Rattle.theory.specs.Laws.{Typings-give-types, Types-have-instances, Outer-binders-idle, Later-rows-idle}
+use Rattle.theory.specs.Laws.{Typings-give-types, Typed-is-closed, Typed-is-whole, Types-have-instances, Outer-binders-idle, Later-rows-idle}
 
 pub typings-give-types : Typings-give-types
 typings-give-types E K Γ t i = (λ T d. typing-gives E K t Γ T i d, λ τ d. type-typing E K t Γ τ i d)
+
+pub typed-is-closed : Typed-is-closed
+typed-is-closed E K Γ (variable n) τ d = d .0
+typed-is-closed E K Γ (abstraction b) τ d = typed-is-closed E K (d .0 ∷ Γ) b (d .1) (d .3)
+typed-is-closed E K Γ (application f a) τ d = (typed-is-closed E K Γ f (arrow (d .0) τ) (d .1), typed-is-closed E K Γ a (d .0) (d .2))
+typed-is-closed E K Γ (primitive k) τ d = tt
+typed-is-closed E K Γ (reference n) τ d = tt
+
+pub typed-is-whole : Typed-is-whole
+typed-is-whole E Γ (variable n) τ d = tt
+typed-is-whole E Γ (abstraction b) τ d = typed-is-whole E (d .0 ∷ Γ) b (d .1) (d .3)
+typed-is-whole E Γ (application f a) τ d = (typed-is-whole E Γ f (arrow (d .0) τ) (d .1), typed-is-whole E Γ a (d .0) (d .2))
+typed-is-whole E Γ (primitive k) τ d = tt
+typed-is-whole E Γ (reference n) τ d = let h = d .some in absurd (omega arith)
 
 -- f and a substitution can change places around t
 abbrev pub Over : (Ty → Ty) → Ty → Type 0

@@ -26,6 +26,13 @@ Typings-give-types =
 abbrev pub Types-have-instances : Type 0
 Types-have-instances = (E K : Lists) (Γ : List Ty) (t : Term) (τ : Ty) (σ : ℕ → Ty) → HasType E K Γ t τ → HasType E K (map (apply σ) Γ) t (apply σ τ)
 
+-- A term that has a type is closed, and without references if there are no kept lists.
+abbrev pub Typed-is-closed : Type 0
+Typed-is-closed = (E K : Lists) (Γ : List Ty) (t : Term) (τ : Ty) → HasType E K Γ t τ → Closed (length Γ) t
+
+abbrev pub Typed-is-whole : Type 0
+Typed-is-whole = (E : Lists) (Γ : List Ty) (t : Term) (τ : Ty) → HasType E none Γ t τ → Below 0 t
+
 -- Only the binders that a term's variables reach matter; so a closed term has the same types everywhere.
 abbrev pub Outer-binders-idle : Type 0
 Outer-binders-idle = (E K : Lists) (Γ Δ Θ : List Ty) (t : Term) (τ : Ty) → Closed (length Γ) t → HasType E K (Γ ++ Δ) t τ → HasType E K (Γ ++ Θ) t τ
@@ -73,11 +80,11 @@ Typeless-expansions =
 abbrev pub Kept-grows : Type 0
 Kept-grows =
     (E : Lists) (xs : List Term) (K L : Lists) (t : Term) → Kept E xs K → ((n : ℕ) → n < length xs → K n ≡ L n)
-    → Closed 0 t → Below (length xs) t → Lawful (L (length xs)) → MostGeneral E K t (meaning (L (length xs))) → Kept E (xs ++ (expand xs t ∷ [])) L
+    → Below (length xs) t → Lawful (L (length xs)) → MostGeneral E K t (meaning (L (length xs))) → Kept E (xs ++ (expand xs t ∷ [])) L
 
 -- The first rows are kept without the others.
 abbrev pub Kept-shrinks : Type 0
-Kept-shrinks = (E : Lists) (xs ys : List Term) (K : Lists) → Kept E (xs ++ ys) K → Kept E xs K
+Kept-shrinks = (E : Lists) (xs ys : List Term) (K L : Lists) → Kept E (xs ++ ys) K → ((n : ℕ) → n < length xs → K n ≡ L n) → Kept E xs L
 
 -- Two principal types of a term are instances of each other and have one normal list.
 abbrev pub Principal-is-one : Type 0
@@ -101,4 +108,4 @@ Normal-is-principal = (E K : Lists) (t : Term) (τ : Ty) → MostGeneral E K t �
 
 -- So it may be kept, if it is not too long.
 abbrev pub Normal-is-kept : Type 0
-Normal-is-kept = (E : Lists) (x : Term) (τ : Ty) → LawfulLists E → Closed 0 x → Principal E x τ → length (normal-of τ) ≤ 4096 → KeptRow E x (normal-of τ)
+Normal-is-kept = (E : Lists) (x : Term) (τ : Ty) → LawfulLists E → Principal E x τ → length (normal-of τ) ≤ 4096 → KeptRow E x (normal-of τ)

@@ -1,5 +1,5 @@
 // The laws of types, expansions and principal types, on which the promises about filed formulas rest.
-ghost use Rattle.theory.specs.Laws.{Typings-give-types, Types-have-instances, Outer-binders-idle, Later-rows-idle};
+ghost use Rattle.theory.specs.Laws.{Typings-give-types, Typed-is-closed, Typed-is-whole, Types-have-instances, Outer-binders-idle, Later-rows-idle};
 ghost use Rattle.theory.specs.Laws.{Expansions-closed, Expansions-whole, Expansions-last};
 ghost use Rattle.theory.specs.Laws.{Types-of-rows, Types-of-expansions, Principal-of-expansions, Typeless-expansions, Kept-grows, Kept-shrinks};
 ghost use Rattle.theory.specs.Laws.{Principal-is-one, Principal-renamed, Principal-is-proper, Principal-is-simple, Normal-is-principal, Normal-is-kept};
@@ -7,6 +7,8 @@ ghost use Rattle.theory.specs.Laws.{Principal-is-one, Principal-renamed, Princ
 // What types of terms depend on.
 pub fn types_stand() -> u8
     ensures typings { λ _. ⌜ Typings-give-types ⌝ }
+    ensures closed { λ _. ⌜ Typed-is-closed ⌝ }
+    ensures whole { λ _. ⌜ Typed-is-whole ⌝ }
     ensures instances { λ _. ⌜ Types-have-instances ⌝ }
     ensures binders { λ _. ⌜ Outer-binders-idle ⌝ }
     ensures rows { λ _. ⌜ Later-rows-idle ⌝ }
