@@ -1,0 +1,4 @@
+pub mod Grow
+pub mod Reading
+pub mod Firsts
+pub mod Instances

@@ -1,0 +1,4 @@
+pub mod Writes
+pub mod Memory
+pub mod Merges
+pub mod Merging
