@@ -1,0 +1,4 @@
+pub mod Names
+pub mod Entries
+pub mod Table
+pub mod Lawfulness

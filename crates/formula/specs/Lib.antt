@@ -1,0 +1,5 @@
+pub mod Firsts
+pub mod Names
+pub mod Faults
+pub mod Reading
+pub mod Parsing

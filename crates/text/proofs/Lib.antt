@@ -1,0 +1,4 @@
+mod Overwrites
+pub mod ByteFacts
+pub mod Scanning
+pub mod Ahead
