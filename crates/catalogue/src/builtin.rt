@@ -13,25 +13,152 @@ struct Row {
     list: &'static [TypeNode],
 }
 
-const HOURS: TypeNode = TypeNode { kind: 1, left: 0, right: 0 };
-const RATE: TypeNode = TypeNode { kind: 1, left: 1, right: 0 };
-const GROSS: TypeNode = TypeNode { kind: 1, left: 2, right: 0 };
-const NET: TypeNode = TypeNode { kind: 1, left: 3, right: 0 };
-const PAID: TypeNode = TypeNode { kind: 1, left: 4, right: 0 };
-const FLAG: TypeNode = TypeNode { kind: 1, left: 5, right: 0 };
+const HOURS: TypeNode = TypeNode {
+    kind: 1,
+    left: 0,
+    right: 0,
+};
+
+const RATE: TypeNode = TypeNode {
+    kind: 1,
+    left: 1,
+    right: 0,
+};
+
+const GROSS: TypeNode = TypeNode {
+    kind: 1,
+    left: 2,
+    right: 0,
+};
+
+const NET: TypeNode = TypeNode {
+    kind: 1,
+    left: 3,
+    right: 0,
+};
+
+const PAID: TypeNode = TypeNode {
+    kind: 1,
+    left: 4,
+    right: 0,
+};
+
+const FLAG: TypeNode = TypeNode {
+    kind: 1,
+    left: 5,
+    right: 0,
+};
 
 const ROWS: [Row; 8] = [
-    Row { name: b"gross_of", list: &[HOURS, RATE, GROSS, TypeNode { kind: 2, left: 1, right: 2 }, TypeNode { kind: 2, left: 0, right: 3 }] },
-    Row { name: b"add", list: &[GROSS, TypeNode { kind: 2, left: 0, right: 0 }, TypeNode { kind: 2, left: 0, right: 1 }] },
-    Row { name: b"net_of", list: &[GROSS, NET, TypeNode { kind: 2, left: 0, right: 1 }] },
-    Row { name: b"paid_of", list: &[NET, PAID, TypeNode { kind: 2, left: 0, right: 1 }] },
-    Row { name: b"over", list: &[HOURS, FLAG, TypeNode { kind: 2, left: 0, right: 1 }, TypeNode { kind: 2, left: 0, right: 2 }] },
+    Row {
+        name: b"gross_of",
+        list: &[
+            HOURS,
+            RATE,
+            GROSS,
+            TypeNode {
+                kind: 2,
+                left: 1,
+                right: 2,
+            },
+            TypeNode {
+                kind: 2,
+                left: 0,
+                right: 3,
+            },
+        ],
+    },
+    Row {
+        name: b"add",
+        list: &[
+            GROSS,
+            TypeNode {
+                kind: 2,
+                left: 0,
+                right: 0,
+            },
+            TypeNode {
+                kind: 2,
+                left: 0,
+                right: 1,
+            },
+        ],
+    },
+    Row {
+        name: b"net_of",
+        list: &[
+            GROSS,
+            NET,
+            TypeNode {
+                kind: 2,
+                left: 0,
+                right: 1,
+            },
+        ],
+    },
+    Row {
+        name: b"paid_of",
+        list: &[
+            NET,
+            PAID,
+            TypeNode {
+                kind: 2,
+                left: 0,
+                right: 1,
+            },
+        ],
+    },
+    Row {
+        name: b"over",
+        list: &[
+            HOURS,
+            FLAG,
+            TypeNode {
+                kind: 2,
+                left: 0,
+                right: 1,
+            },
+            TypeNode {
+                kind: 2,
+                left: 0,
+                right: 2,
+            },
+        ],
+    },
     Row {
         name: b"choose",
-        list: &[FLAG, TypeNode { kind: 0, left: 0, right: 0 }, TypeNode { kind: 2, left: 1, right: 1 }, TypeNode { kind: 2, left: 1, right: 2 }, TypeNode { kind: 2, left: 0, right: 3 }],
+        list: &[
+            FLAG,
+            TypeNode {
+                kind: 0,
+                left: 0,
+                right: 0,
+            },
+            TypeNode {
+                kind: 2,
+                left: 1,
+                right: 1,
+            },
+            TypeNode {
+                kind: 2,
+                left: 1,
+                right: 2,
+            },
+            TypeNode {
+                kind: 2,
+                left: 0,
+                right: 3,
+            },
+        ],
     },
-    Row { name: b"std_hours", list: &[HOURS] },
-    Row { name: b"base_rate", list: &[RATE] },
+    Row {
+        name: b"std_hours",
+        list: &[HOURS],
+    },
+    Row {
+        name: b"base_rate",
+        list: &[RATE],
+    },
 ];
 
 #[derive(Clone, Copy)]
@@ -66,11 +193,19 @@ pub impl Catalogue for Builtin as BuiltinCatalogue {
 
     fn node(&self, k: u16, i: u16) -> TypeNode {
         if k >= 8 {
-            return TypeNode { kind: 0, left: 0, right: 0 };
+            return TypeNode {
+                kind: 0,
+                left: 0,
+                right: 0,
+            };
         }
         let list = ROWS[k as usize].list;
         if i as usize >= list.len() {
-            return TypeNode { kind: 0, left: 0, right: 0 };
+            return TypeNode {
+                kind: 0,
+                left: 0,
+                right: 0,
+            };
         }
         list[i as usize]
     }

@@ -121,10 +121,10 @@ noted-more ts es i j e q noted is =
     record {
       inside = omega (arith, noted .inside, long);
       each = λ k a b.
-        ⊎-elim
-        (λ (z : k ≡ j). subst (λ (x : ℕ). getD (set es j e) x 0 ≡ end ts x) (sym z) (getD-set-same es j e 0 (omega (arith, noted .inside)) ∙ is))
-        (λ (n : k ≢ j). getD-set-other es j k e 0 n ∙ noted .each k (omega arith) (omega (arith, long)))
-        (cases-eq k j);
+          ⊎-elim
+          (λ (z : k ≡ j). subst (λ (x : ℕ). getD (set es j e) x 0 ≡ end ts x) (sym z) (getD-set-same es j e 0 (omega (arith, noted .inside)) ∙ is))
+          (λ (n : k ≢ j). getD-set-other es j k e 0 n ∙ noted .each k (omega arith) (omega (arith, long)))
+          (cases-eq k j);
     }
 
 from-some : Option ℕ → ℕ
@@ -173,3 +173,9 @@ module _ (ts : List TermNode) (i : ℕ) where
       go : (binder ts i b n ≡ Some c → c < b) → (binder ts i b (suc n) ≡ Some c → c < b) → (t : Bool) → cond t (binder ts i b n) (binder ts i b (suc n)) ≡ Some c → c < suc b
       go here rest true f = omega (arith, here f)
       go here rest false f = omega (arith, rest f)
+
+-- the binder of a variable has a place, where every node has one
+pub binder-inside : (ts : List TermNode) (ps : List ℕ) (i n b : ℕ) (o : Option ℕ) → o ≡ binder ts i i n → o ≡ Some b → i < length ts → length ps ≡ length ts → b < length ps
+binder-inside ts ps i n b o is found h count =
+    let below = binder-below ts i i n b (sym is ∙ found) in
+    omega (arith, below)

@@ -57,7 +57,7 @@ covered-more text es filed b b′ b″ depth out p p′ q at from r s u v fu fv 
       advance = record { less = omega (arith, a .less, e .less); within = e .within; small = omega (arith, a .small, e .small, a .less, e .less) };
       kept = d .kept ∙ c .kept;
       made = λ ts x. made-more text es filed (length b) depth (scope-of b depth) out p p′ q at r s u v ts fu fv (c .made ts x) lp up lp′
-        (λ us y. made-like atom text es filed (length b′) (length b) depth (scope-of b′ depth) (scope-of b depth) p′ q (at + r .count + 1) s us lb (ap reverse (c .kept)) (d .made us y));
+          (λ us y. made-like atom text es filed (length b′) (length b) depth (scope-of b′ depth) (scope-of b depth) p′ q (at + r .count + 1) s us lb (ap reverse (c .kept)) (d .made us y));
     }
 
 -- the scope of a body
@@ -81,7 +81,7 @@ ended-abstraction text es filed b b′ b″ depth out p q at from h r head noted
         advance = record { less = omega (arith, a .less, head .less); within = a .within; small = omega (arith, a .small, a .less, head .less) };
         kept = kept-below b b′ b″ depth (now (h .name)) noted full (order depth (length b)) (c .kept);
         made = λ ts x. made-abstraction text es filed (length b) depth (scope-of b depth) (scope-of b′ (depth + 1)) out p q at from h r ts head (λ d. scope-push b b′ depth (now (h .name)) d (noted d)) put lp
-          (λ us y. made-like expression text es filed (length b′) (length b) (depth + 1) (scope-of b′ (depth + 1)) (scope-of b′ (depth + 1)) p q (at + 1) r us lb refl (c .made us y)) x;
+            (λ us y. made-like expression text es filed (length b′) (length b) (depth + 1) (scope-of b′ (depth + 1)) (scope-of b′ (depth + 1)) p q (at + 1) r us lb refl (c .made us y)) x;
       };
       ends = e .ends;
     }

@@ -39,9 +39,10 @@ blames-more text es filed cap depth scope out out′ at from r f made goes b ts 
 
 -- inside brackets
 pub blames-inside : (text : List ℕ) (from mid : ℕ) (f : TextFault) → Reads text from opening mid → BlamesExpression text mid f → BlamesApplication text from f × BlamesNext text from f
-blames-inside text from mid f o b =
-    (λ ts r nl k. blames-later text from opening mid o (start k) f (λ a. refl) ts r (λ a us s. b us s (first k)),
-     λ ts r go g k. blames-later text from opening mid o (after g k) f (λ a. refl) ts r (λ a us s. b us s (next g k)))
+blames-inside text from mid f o b = (
+  λ ts r nl k. blames-later text from opening mid o (start k) f (λ a. refl) ts r (λ a us s. b us s (first k)),
+  λ ts r go g k. blames-later text from opening mid o (after g k) f (λ a. refl) ts r (λ a us s. b us s (next g k)),
+)
 
 -- brackets that nothing closes
 pub blames-open : (text : List ℕ) (es : List Entry) (filed cap depth : ℕ) (scope : List Name) (out out′ : List TermNode) (at from mid : ℕ) (r : Reach) (f : TextFault) → Reads text from opening mid → ((ts : List Token) → Rest text mid ts → Made expression text es filed cap depth scope out out′ at r ts) → ((ts : List Token) → Rest text (r .end) ts → (ts ≡ []) × (f ≡ Misplaced (length text))) → BlamesApplication text from f × BlamesNext text from f
@@ -57,6 +58,7 @@ blames-open text es filed cap depth scope out out′ at from mid r f o made clos
         (subst (λ l. Blames (after (w .0) (w .1)) l (length text) f) (sym (c .0)) (subst (Blames (after (w .0) (w .1)) [] (length text)) (sym (c .1)) (halts-end (after (w .0) (w .1)) (length text) tt (w .4 ∙ never (m .tree)))))
 
     blames-inside-frames : BlamesApplication text from f × BlamesNext text from f
-    blames-inside-frames =
-        (λ ts r nl k. blames-later text from opening mid o (start k) f (λ a. refl) ts r (λ a us s. stops (first k) (λ t. refl) us s),
-         λ ts r go g k. blames-later text from opening mid o (after g k) f (λ a. refl) ts r (λ a us s. stops (next g k) (λ t. refl) us s))
+    blames-inside-frames = (
+      λ ts r nl k. blames-later text from opening mid o (start k) f (λ a. refl) ts r (λ a us s. stops (first k) (λ t. refl) us s),
+      λ ts r go g k. blames-later text from opening mid o (after g k) f (λ a. refl) ts r (λ a us s. stops (next g k) (λ t. refl) us s),
+    )

@@ -15,7 +15,7 @@ use Rattle.catalogue.specs.Names.{Name}
 use Rattle.catalogue.specs.Entries.{Entry}
 use Rattle.grammar.specs.Grammar.{Tree, named, referred, abstracted, applied, nodes, Kind, expression, application, atom, Is, of-lambda, of-application, of-atom, of-atoms, of-name, of-reference, of-brackets}
 use Rattle.term.specs.declared.TermNode.{TermNode}
-use Rattle.term.specs.Terms.{Term, abstraction, reference, prefix, node} 
+use Rattle.term.specs.Terms.{Term, abstraction, reference, prefix, node}
 use Rattle.term.specs.Terms as terms
 use Rattle.text.specs.Tokens.{Token, token, lambda, dot, opening, closing, name, Rest}
 use Rattle.text.specs.Tokens as tokens
@@ -138,24 +138,26 @@ made-more text es filed cap depth scope out p p′ q at r s u v ts fu fv m lp up
       filing = fails-append (Filed filed) (λ r. r .at) (references (m .tree)) (references (n .tree)) (r .unfiled) (s .unfiled) v fv (m .filing) (n .filing);
       naming = λ h. fails-append (Known es) (λ u. u .at) (uses scope (m .tree)) (uses scope (n .tree)) (r .unknown) (s .unknown) u fu (m .naming (omega arith)) (n .naming (omega arith));
       writing = λ h none room few.
-        let z = both-none (r .unknown) (s .unknown) u fu none in
-        let c = m .count in
-        let a = m .writing (omega arith) (z .0) (omega arith) (omega arith) in
-        let b = n .writing (omega arith) (z .1) (omega (arith, c)) (omega (arith, c)) in
-        let k = nodes (m .tree) in
-        let j = nodes (n .tree) in
-        let l = prefix (a .0) in
-        let less : at + k < length out = omega arith in
-        let same : at + k - at ≡ k = omega arith in
-        let long : k ≡ length l = sym (resolved-nodes (a .1)) in
-        let up′ : p′ ≡ take at p ++ ((node 2 0 ∷ between at (at + k) p) ++ drop (at + k + 1) p) =
-            subst (λ i. p′ ≡ take at p ++ ((node 2 0 ∷ between at (at + i) p) ++ drop (at + i + 1) p)) c (up (omega (arith, c)) (omega (arith, c))) in
-        let moved : p′ ≡ paste out at (node 2 0 ∷ l) (k + 1) =
-            up′ ∙ ap (λ i. take at p ++ (node 2 0 ∷ (take i (drop at p) ++ drop (at + k + 1) p))) same ∙ lifted-paste out p at k l (node 2 0) (a .2) long less in
-        let end : k + 1 + j ≡ k + j + 1 = omega arith in
-        (terms.application (a .0) (b .0), applies (a .1) (b .1),
-         pasted out p′ q at (at + r .count + 1) (k + 1) j (node 2 0 ∷ l) (prefix (b .0)) moved (omega (arith, long)) (sym (resolved-nodes (b .1))) (omega (arith, c)) (omega arith) (b .2)
-         ∙ ap (paste out at (node 2 0 ∷ (l ++ prefix (b .0)))) end);
+          let z = both-none (r .unknown) (s .unknown) u fu none in
+          let c = m .count in
+          let a = m .writing (omega arith) (z .0) (omega arith) (omega arith) in
+          let b = n .writing (omega arith) (z .1) (omega (arith, c)) (omega (arith, c)) in
+          let k = nodes (m .tree) in
+          let j = nodes (n .tree) in
+          let l = prefix (a .0) in
+          let less : at + k < length out = omega arith in
+          let same : at + k - at ≡ k = omega arith in
+          let long : k ≡ length l = sym (resolved-nodes (a .1)) in
+          let up′ : p′ ≡ take at p ++ ((node 2 0 ∷ between at (at + k) p) ++ drop (at + k + 1) p) =
+          subst (λ i. p′ ≡ take at p ++ ((node 2 0 ∷ between at (at + i) p) ++ drop (at + i + 1) p)) c (up (omega (arith, c)) (omega (arith, c))) in
+          let moved : p′ ≡ paste out at (node 2 0 ∷ l) (k + 1) =
+          up′ ∙ ap (λ i. take at p ++ (node 2 0 ∷ (take i (drop at p) ++ drop (at + k + 1) p))) same ∙ lifted-paste out p at k l (node 2 0) (a .2) long less in
+          let end : k + 1 + j ≡ k + j + 1 = omega arith in (
+            terms.application (a .0) (b .0),
+            applies (a .1) (b .1),
+            pasted out p′ q at (at + r .count + 1) (k + 1) j (node 2 0 ∷ l) (prefix (b .0)) moved (omega (arith, long)) (sym (resolved-nodes (b .1))) (omega (arith, c)) (omega arith) (b .2)
+                ∙ ap (paste out at (node 2 0 ∷ (l ++ prefix (b .0)))) end,
+          );
     }
 
 -- an abstraction: its node is written before its body
@@ -175,11 +177,13 @@ made-abstraction text es filed cap depth scope scope′ out p q at from h r ts h
       filing = m .filing;
       naming = λ d. subst (λ s. Fails (Known es) (λ u. u .at) (uses s (m .tree)) (r .unknown)) (sc (omega arith)) (m .naming (omega arith));
       writing = λ d none room few.
-        let b = m .writing (omega arith) none (omega arith) (omega arith) in
-        let n = nodes (m .tree) in
-        let lt : at < length out = omega arith in
-        let first : p ≡ paste out at (node 1 0 ∷ []) 1 = put lt ∙ put-is out at (node 1 0) lt in
-        let k : 1 + n ≡ n + 1 = omega arith in
-        (abstraction (b .0), binds (subst (λ s. Resolves es s (m .tree) (b .0)) (sc (omega arith)) (b .1)),
-         pasted out p q at (at + 1) 1 n (node 1 0 ∷ []) (prefix (b .0)) first refl (sym (resolved-nodes (b .1))) refl (omega arith) (b .2) ∙ ap (paste out at (node 1 0 ∷ prefix (b .0))) k);
+          let b = m .writing (omega arith) none (omega arith) (omega arith) in
+          let n = nodes (m .tree) in
+          let lt : at < length out = omega arith in
+          let first : p ≡ paste out at (node 1 0 ∷ []) 1 = put lt ∙ put-is out at (node 1 0) lt in
+          let k : 1 + n ≡ n + 1 = omega arith in (
+            abstraction (b .0),
+            binds (subst (λ s. Resolves es s (m .tree) (b .0)) (sc (omega arith)) (b .1)),
+            pasted out p q at (at + 1) 1 n (node 1 0 ∷ []) (prefix (b .0)) first refl (sym (resolved-nodes (b .1))) refl (omega arith) (b .2) ∙ ap (paste out at (node 1 0 ∷ prefix (b .0))) k,
+          );
     }

@@ -65,12 +65,14 @@ module _ (text : List ℕ) (es : List Entry) (filed : ℕ) (b b′ : List (RefT 
       let s = rest-some text (r .end) (m .rest) (m .remains) n f some next in
       let x = token (sign-of (f .token)) (f .at) in
       let w = walks (m .is) top in
-      let close : sign-of (f .token) ≡ closing = e .ends (m .rest) (m .remains) x (s .0) (s .1) in
-      (all .tokens, all .spelled,
-       first-bad (all .tokens) (length text) (f .at)
-       (subst (λ l. Halts (start top) l (length text) (f .at)) (sym (m .split ∙ ap (λ l. m .front ++ l) (s .1)))
-         (halts-later (start top) (after (w .0) (w .1)) (m .front) (x ∷ s .0) (length text) (f .at) (w .2)
-           (halts-here (after (w .0) (w .1)) x (s .0) (length text) tt (ap (λ y. step (after (w .0) (w .1)) y (f .at)) close ∙ w .3)))))
+      let close : sign-of (f .token) ≡ closing = e .ends (m .rest) (m .remains) x (s .0) (s .1) in (
+        all .tokens,
+        all .spelled,
+        first-bad (all .tokens) (length text) (f .at)
+            (subst (λ l. Halts (start top) l (length text) (f .at)) (sym (m .split ∙ ap (λ l. m .front ++ l) (s .1)))
+            (halts-later (start top) (after (w .0) (w .1)) (m .front) (x ∷ s .0) (length text) (f .at) (w .2)
+            (halts-here (after (w .0) (w .1)) x (s .0) (length text) tt (ap (λ y. step (after (w .0) (w .1)) y (f .at)) close ∙ w .3)))),
+      )
 
 -- What each question refuses, and what is left when none does.
 

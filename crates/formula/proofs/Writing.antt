@@ -34,7 +34,7 @@ lifted-paste o p w n l v q e h =
     let b : drop w p ≡ l ++ R = ap (drop w) all ∙ drop-at P (l ++ R) w long in
     let c : take n (drop w p) ≡ l = ap (take n) b ∙ take-at l R n (sym e) in
     let d : drop (w + n + 1) p ≡ drop (w + n + 1) o =
-        sym (drop-drop 1 (w + n) p) ∙ ap (drop 1) (ap (drop (w + n)) q ∙ drop-paste o w l n (omega arith) (omega arith)) ∙ drop-drop 1 (w + n) o in
+    sym (drop-drop 1 (w + n) p) ∙ ap (drop 1) (ap (drop (w + n)) q ∙ drop-paste o w l n (omega arith) (omega arith)) ∙ drop-drop 1 (w + n) o in
     let z : w + n + 1 ≡ w + (n + 1) = omega arith in
     ap (λ x. x ++ (v ∷ (take n (drop w p) ++ drop (w + n + 1) p))) a
     ∙ ap (λ x. P ++ (v ∷ (x ++ drop (w + n + 1) p))) c

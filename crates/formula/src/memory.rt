@@ -11,6 +11,7 @@ use term::TermNode;
 pub const MOST_NODES: usize = 1024;
 
 const ZERO: TermNode = TermNode { kind: 0, number: 0 };
+
 const APPLICATION: TermNode = TermNode { kind: 2, number: 0 };
 
 // Writes a node, where there is room.

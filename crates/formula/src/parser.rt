@@ -61,7 +61,10 @@ impl<'a, C: Catalogue> Reader<'a, C> {
         ensures { λ r. ⌜ (depth ≤ length (now (binders .entry)) → Leaf (entries (held (now (self .entry) .catalogue))) (scope-of (now (binders .entry)) depth) (now (name .entry)) r) ⌝ }
     {
         if let Some(k) = index(binders, depth, name) {
-            return Some(TermNode { kind: 0, number: k as u16 });
+            return Some(TermNode {
+                kind: 0,
+                number: k as u16,
+            });
         }
         match self.catalogue.find(name) {
             Some(k) => Some(TermNode { kind: 3, number: k }),
@@ -70,7 +73,15 @@ impl<'a, C: Catalogue> Reader<'a, C> {
     }
 
     // Writes the node of a name, or answers its place where it is unknown.
-    fn settle(&self, binders: &[&[u8]], depth: usize, name: &[u8], place: usize, out: &mut [TermNode], at: usize) -> Option<usize>
+    fn settle(
+        &self,
+        binders: &[&[u8]],
+        depth: usize,
+        name: &[u8],
+        place: usize,
+        out: &mut [TermNode],
+        at: usize,
+    ) -> Option<usize>
         requires { ⌜ length (now binders) ≤ 65536 ⌝ }
         ensures { λ r. ⌜ (depth ≤ length (now (binders .entry)) → Settled (entries (held (now (self .entry) .catalogue))) (scope-of (now (binders .entry)) depth) (now (name .entry)) place (now (out .entry)) (now (out .exit)) at r) ⌝ }
     {
@@ -87,10 +98,21 @@ impl<'a, C: Catalogue> Reader<'a, C> {
     fn unfiled(&self, number: u16, place: usize) -> Option<usize>
         ensures { λ r. ⌜ Unfiled (now (self .entry) .filed) number place r ⌝ }
     {
-        if number < self.filed { None } else { Some(place) }
+        if number < self.filed {
+            None
+        } else {
+            Some(place)
+        }
     }
 
-    pub fn expression(&self, from: usize, binders: &mut [&'a [u8]], depth: usize, out: &mut [TermNode], at: usize) -> Result<Reach, TextFault>
+    pub fn expression(
+        &self,
+        from: usize,
+        binders: &mut [&'a [u8]],
+        depth: usize,
+        out: &mut [TermNode],
+        at: usize,
+    ) -> Result<Reach, TextFault>
         requires { ⌜ Ready (held (now self .lexer .text)) (now binders) depth at from ⌝ }
         ensures { λ r. ⌜ Cases r (λ q. Ended anExpression (held (now (self .entry) .lexer .text)) (entries (held (now (self .entry) .catalogue))) (now (self .entry) .filed) (now (binders .entry)) (now (binders .exit)) depth (now (out .entry)) (now (out .exit)) at from q) (λ f. BlamesExpression (held (now (self .entry) .lexer .text)) from f) ⌝ }
     {
@@ -99,13 +121,25 @@ impl<'a, C: Catalogue> Reader<'a, C> {
                 bind(binders, depth, head.name);
                 put(out, at, ABSTRACTION);
                 let body = self.expression(head.end, binders, depth + 1, out, at + 1)?;
-                Ok(Reach { end: body.end, count: body.count + 1, unknown: body.unknown, unfiled: body.unfiled })
+                Ok(Reach {
+                    end: body.end,
+                    count: body.count + 1,
+                    unknown: body.unknown,
+                    unfiled: body.unfiled,
+                })
             }
             None => self.application(from, binders, depth, out, at),
         }
     }
 
-    fn application(&self, from: usize, binders: &mut [&'a [u8]], depth: usize, out: &mut [TermNode], at: usize) -> Result<Reach, TextFault>
+    fn application(
+        &self,
+        from: usize,
+        binders: &mut [&'a [u8]],
+        depth: usize,
+        out: &mut [TermNode],
+        at: usize,
+    ) -> Result<Reach, TextFault>
         requires { ⌜ Ready (held (now self .lexer .text)) (now binders) depth at from ⌝ }
         ensures { λ r. ⌜ Cases r (λ q. Ended anApplication (held (now (self .entry) .lexer .text)) (entries (held (now (self .entry) .catalogue))) (now (self .entry) .filed) (now (binders .entry)) (now (binders .exit)) depth (now (out .entry)) (now (out .exit)) at from q) (λ f. BlamesApplication (held (now (self .entry) .lexer .text)) from f) ⌝ }
     {
@@ -115,12 +149,24 @@ impl<'a, C: Catalogue> Reader<'a, C> {
             let next = self.atom(reach.end, binders, depth, out, at + reach.count + 1)?;
             let unknown = first_of(reach.unknown, next.unknown);
             let unfiled = first_of(reach.unfiled, next.unfiled);
-            reach = Reach { end: next.end, count: reach.count + next.count + 1, unknown, unfiled };
+            reach = Reach {
+                end: next.end,
+                count: reach.count + next.count + 1,
+                unknown,
+                unfiled,
+            };
         }
         Ok(reach)
     }
 
-    fn atom(&self, from: usize, binders: &mut [&'a [u8]], depth: usize, out: &mut [TermNode], at: usize) -> Result<Reach, TextFault>
+    fn atom(
+        &self,
+        from: usize,
+        binders: &mut [&'a [u8]],
+        depth: usize,
+        out: &mut [TermNode],
+        at: usize,
+    ) -> Result<Reach, TextFault>
         requires { ⌜ Ready (held (now self .lexer .text)) (now binders) depth at from ⌝ }
         ensures { λ r. ⌜ Cases r (λ q. Covered anAtom (held (now (self .entry) .lexer .text)) (entries (held (now (self .entry) .catalogue))) (now (self .entry) .filed) (now (binders .entry)) (now (binders .exit)) depth (now (out .entry)) (now (out .exit)) at from q) (λ f. BlamesApplication (held (now (self .entry) .lexer .text)) from f × BlamesNext (held (now (self .entry) .lexer .text)) from f) ⌝ }
     {
@@ -128,17 +174,32 @@ impl<'a, C: Catalogue> Reader<'a, C> {
             Some(found) => match found.token {
                 Token::Name(name) => {
                     let unknown = self.settle(binders, depth, name, found.at, out, at);
-                    Ok(Reach { end: found.end, count: 1, unknown, unfiled: None })
+                    Ok(Reach {
+                        end: found.end,
+                        count: 1,
+                        unknown,
+                        unfiled: None,
+                    })
                 }
                 Token::Reference(number) => {
                     put(out, at, TermNode { kind: 4, number });
                     let unfiled = self.unfiled(number, found.at);
-                    Ok(Reach { end: found.end, count: 1, unknown: None, unfiled })
+                    Ok(Reach {
+                        end: found.end,
+                        count: 1,
+                        unknown: None,
+                        unfiled,
+                    })
                 }
                 Token::Open => {
                     let inner = self.expression(found.end, binders, depth, out, at)?;
                     let end = closing(&self.lexer, inner.end)?;
-                    Ok(Reach { end, count: inner.count, unknown: inner.unknown, unfiled: inner.unfiled })
+                    Ok(Reach {
+                        end,
+                        count: inner.count,
+                        unknown: inner.unknown,
+                        unfiled: inner.unfiled,
+                    })
                 }
                 _ => Err(TextFault::Misplaced(found.at)),
             },

@@ -19,18 +19,36 @@ use text::fault::TextFault;
 use text::lexer::Lexer;
 
 // Reads the text as an expression, and writes its term as far as there is room.
-fn parse<'a, C: Catalogue>(catalogue: &'a C, filed: u16, text: &'a [u8], memory: &mut [TermNode]) -> Result<Reach, TextFault>
+fn parse<'a, C: Catalogue>(
+    catalogue: &'a C,
+    filed: u16,
+    text: &'a [u8],
+    memory: &mut [TermNode],
+) -> Result<Reach, TextFault>
     ensures { λ r. ⌜ Cases r (λ q. Parsed (now (text .entry)) (entries (now (catalogue .entry))) filed 1024 (now (memory .entry)) (now (memory .exit)) q) (λ f. NotParsed (now (text .entry)) f) ⌝ }
 {
-    let reader = Reader { lexer: Lexer::new(text), catalogue, filed };
+    let reader = Reader {
+        lexer: Lexer::new(text),
+        catalogue,
+        filed,
+    };
     let mut binders = [text; MOST_NODES];
     let reply = reader.whole(&mut binders, memory);
-    let Reader { lexer: _, catalogue: _, filed: _ } = reader;
+    let Reader {
+        lexer: _,
+        catalogue: _,
+        filed: _,
+    } = reader;
     reply
 }
 
 // Reads the text as a formula, whose term then stands at the front of the memory.
-fn draft<C: Catalogue>(catalogue: &C, filed: u16, text: &[u8], memory: &mut [TermNode]) -> Result<usize, FormulaFault>
+fn draft<C: Catalogue>(
+    catalogue: &C,
+    filed: u16,
+    text: &[u8],
+    memory: &mut [TermNode],
+) -> Result<usize, FormulaFault>
     ensures { λ r. ⌜ Cases r (λ n. Drafted (entries (now (catalogue .entry))) filed (now (text .entry)) (now (memory .exit)) n) (λ f. Refuses (entries (now (catalogue .entry))) filed (now (text .entry)) (length (now (memory .entry))) (says f)) ⌝ }
 {
     let whole = parse(catalogue, filed, text, memory)?;
@@ -51,7 +69,12 @@ fn draft<C: Catalogue>(catalogue: &C, filed: u16, text: &[u8], memory: &mut [Ter
 
 // Reads a text as a formula over a catalogue, while `filed` formulas are filed: its term is written to the memory, with
 // zeros behind it, and the number of its nodes answered. A refusal leaves zeros in all of the memory.
-pub fn read<C: Catalogue>(catalogue: &C, filed: u16, text: &[u8], memory: &mut [TermNode]) -> Result<usize, FormulaFault>
+pub fn read<C: Catalogue>(
+    catalogue: &C,
+    filed: u16,
+    text: &[u8],
+    memory: &mut [TermNode],
+) -> Result<usize, FormulaFault>
     ensures { λ r. ⌜ Cases r (λ n. Accepted (entries (now (catalogue .entry))) filed (now (text .entry)) (now (memory .exit)) n) (λ f. Refuses (entries (now (catalogue .entry))) filed (now (text .entry)) (length (now (memory .entry))) (says f) × (now (memory .exit) ≡ replicate (length (now (memory .entry))) zero-node)) ⌝ }
 {
     match draft(catalogue, filed, text, memory) {

@@ -108,11 +108,11 @@ live-on (start k) pre l m = back pre (an-x ∷ []) (goes-on k _ pre (an-x ∷ []
 live-on (binder k) pre l m =
     back pre (an-x ∷ (token dot 0 ∷ (an-x ∷ [])))
     (subst CanContinue (sym (ap (λ l. l ++ (an-x ∷ (token dot 0 ∷ (an-x ∷ [])))) (m .3) ∙ append-assoc (m .0) (token lambda (m .2) ∷ []) (an-x ∷ (token dot 0 ∷ (an-x ∷ [])))))
-      (goes-on k _ (m .0) (token lambda (m .2) ∷ (an-x ∷ (token dot 0 ∷ (an-x ∷ [])))) (m .1) (of-lambda (120 ∷ []) (m .2) 0 0 x-is)))
+    (goes-on k _ (m .0) (token lambda (m .2) ∷ (an-x ∷ (token dot 0 ∷ (an-x ∷ [])))) (m .1) (of-lambda (120 ∷ []) (m .2) 0 0 x-is)))
 live-on (before-dot w o k) pre l m =
     back pre (token dot 0 ∷ (an-x ∷ []))
     (subst CanContinue (sym (ap (λ l. l ++ (token dot 0 ∷ (an-x ∷ []))) (m .3) ∙ append-assoc (m .0) (token lambda (m .2) ∷ (token (name w) o ∷ [])) (token dot 0 ∷ (an-x ∷ []))))
-      (goes-on k _ (m .0) (token lambda (m .2) ∷ (token (name w) o ∷ (token dot 0 ∷ (an-x ∷ [])))) (m .1) (of-lambda w (m .2) o 0 x-is)))
+    (goes-on k _ (m .0) (token lambda (m .2) ∷ (token (name w) o ∷ (token dot 0 ∷ (an-x ∷ [])))) (m .1) (of-lambda w (m .2) o 0 x-is)))
 live-on (after f k) pre l m = subst CanContinue (sym (m .4)) (goes-on k f (m .0) (m .1) (m .2) (of-application (m .3)))
 live-on dead pre l m = absurd l
 
@@ -128,10 +128,10 @@ first-bad ts end p h =
       stands = h .stands;
       continues = live-on (takes (start top) (h .before)) (h .before) (h .live) (means-takes (start top) (h .before) [] refl);
       stuck = λ x us e c.
-        done-none (result (takes (start top) ((h .before ++ (x ∷ [])) ++ c .0))) (c .1 .0) (accepts _ (c .1 .0) (c .1 .1))
+          done-none (result (takes (start top) ((h .before ++ (x ∷ [])) ++ c .0))) (c .1 .0) (accepts _ (c .1 .0) (c .1 .1))
           (ap result (takes-++ (start top) (h .before ++ (x ∷ [])) (c .0) ∙ ap (λ q. takes q (c .0)) (takes-++ (start top) (h .before) (x ∷ []) ∙ h .stuck x us e) ∙ takes-dead (c .0)));
       short = λ e x.
-        done-none (result (takes (start top) ts)) (x .0) (accepts ts (x .0) (x .1))
+          done-none (result (takes (start top) ts)) (x .0) (accepts ts (x .0) (x .1))
           (ap (λ l. result (takes (start top) l)) (h .split ∙ ap (λ l. h .before ++ l) e ∙ append-nil (h .before)) ∙ h .short e);
     }
 

@@ -24,6 +24,10 @@ impl Refusal {
     pub fn new(number: u16, layer: Layer, place: usize) -> Self
         ensures { λ r. ⌜ r ≡ saying number layer place ⌝ }
     {
-        Refusal { number, layer, place }
+        Refusal {
+            number,
+            layer,
+            place,
+        }
     }
 }

@@ -49,7 +49,7 @@ module _ (text : List ℕ) (o e : ℕ) (w : List ℕ) (whole : e ≡ o + lead (d
   scans-name i =
       let there : drop (lead (drop o text)) (drop o text) ≡ drop e text = drop-drop (lead (drop o text)) o text ∙ ap (λ k. drop k text) (sym whole) in
       let on : Scans (o + lead (drop o text)) (drop (lead (drop o text)) (drop o text)) [] e (drop e text) =
-          subst (λ l. Scans (o + lead (drop o text)) l [] e (drop e text)) (sym there) (subst (λ k. Scans k (drop e text) [] e (drop e text)) whole here) in
+      subst (λ l. Scans (o + lead (drop o text)) l [] e (drop e text)) (sym there) (subst (λ k. Scans k (drop e text) [] e (drop e text)) whole here) in
       subst (λ v. Scans o (drop o text) (token (name v) o ∷ []) e (drop e text)) (sym run-is) (word (subst IsName run-is i) on)
 
   pub stray-name : o < length text → in-name (class-of (getD text o 0)) ≡ true → (IsName w → ⊥) → Stray (drop o text)
@@ -62,7 +62,7 @@ module _ (text : List ℕ) (o e : ℕ) (w : List ℕ) (h : o < length text) (has
       let bs = drop (o + 1) text in
       let there : drop (lead bs) bs ≡ drop e text = drop-drop (lead bs) (o + 1) text ∙ ap (λ k. drop k text) (sym whole) in
       let on : Scans (o + 1 + lead bs) (drop (lead bs) bs) [] e (drop e text) =
-          subst (λ l. Scans (o + 1 + lead bs) l [] e (drop e text)) (sym there) (subst (λ k. Scans k (drop e text) [] e (drop e text)) whole here) in
+      subst (λ l. Scans (o + 1 + lead bs) l [] e (drop e text)) (sym there) (subst (λ k. Scans k (drop e text) [] e (drop e text)) whole here) in
       subst (λ l. Scans o l (token (reference n) o ∷ []) e (drop e text)) (sym (drop-more text o 0 h)) (number hash (subst (λ v. IsNumber v n) r i) on)
 
   pub stray-number : ((n : ℕ) → IsNumber w n → ⊥) → Stray (drop o text)

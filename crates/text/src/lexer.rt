@@ -53,7 +53,11 @@ fn name_at<'a>(classes: &Classes, text: &'a [u8], at: usize) -> Result<Lexeme<'a
     let end = run_end(classes, text, at);
     let word = &text[at..end];
     if is_name(classes, word) {
-        Ok(Lexeme { token: Token::Name(word), at, end })
+        Ok(Lexeme {
+            token: Token::Name(word),
+            at,
+            end,
+        })
     } else {
         Err(TextFault::Stray(at))
     }
@@ -66,7 +70,11 @@ fn reference_at<'a>(classes: &Classes, text: &'a [u8], at: usize) -> Result<Lexe
 {
     let end = run_end(classes, text, at + 1);
     match number(classes, &text[at + 1..end]) {
-        Some(n) => Ok(Lexeme { token: Token::Reference(n), at, end }),
+        Some(n) => Ok(Lexeme {
+            token: Token::Reference(n),
+            at,
+            end,
+        }),
         None => Err(TextFault::Stray(at)),
     }
 }
@@ -77,7 +85,11 @@ fn token_at<'a>(classes: &Classes, text: &'a [u8], at: usize) -> Result<Lexeme<'
     ensures { λ r. ⌜ Starts (now (text .entry)) at r ⌝ }
 {
     if let Some(token) = single(text[at] as char) {
-        return Ok(Lexeme { token, at, end: at + 1 });
+        return Ok(Lexeme {
+            token,
+            at,
+            end: at + 1,
+        });
     }
     match classes.of(text[at]) {
         Class::Letter | Class::Digit | Class::Underscore => name_at(classes, text, at),
@@ -97,7 +109,10 @@ impl<'a> Lexer<'a> {
     pub fn new(text: &'a [u8]) -> Self
         ensures { λ r. ⌜ held (r .text) ≡ held (text .entry) ⌝ }
     {
-        Lexer { classes: Classes::new(), text }
+        Lexer {
+            classes: Classes::new(),
+            text,
+        }
     }
 
     // The next token from the offset `from` on, if there is one; what is no token is refused.

@@ -11,6 +11,7 @@ use crate::bytes::ClassPartialEq;
 use crate::classes::Classes;
 
 pub const LONGEST_NAME: usize = 31;
+
 pub const MOST_DIGITS: usize = 3;
 
 // Whether a word is a name: a letter, then letters, digits and underscores, 31 bytes at most.

@@ -14,12 +14,16 @@ pub struct TypeNode {
 }
 
 pub const VARIABLE: u8 = 0;
+
 pub const BASE: u8 = 1;
+
 pub const ARROW: u8 = 2;
 
 // The greatest number of a variable, the greatest code of a base, and the most nodes of a list.
 pub const LAST_VARIABLE: u16 = 4095;
+
 pub const LAST_BASE: u16 = 5;
+
 pub const MOST_NODES: usize = 4096;
 
 // Whether a node may stand at a place of a list.

@@ -14,11 +14,12 @@ returns-then-same-name c =
     }
 
 pub loop-k-again : need.loop-k-again
-loop-k-again c =
-    (omega arith,
-     below-more _ (c .loop-k .k) (c .loop-k .inv .1)
-     (λ s. let e = c .if-same-name .ensures tt .1 (subst (λ v. Same v (c .args .name .now)) (scope-at (c .args .binders .now) (c .args .depth) (c .loop-k .k) _ (c .if-depth-binders .left) (c .loop-k-test .taken)) s) in
-       let z : _≡_ {A = ℕ} 0 1 = cc in omega arith))
+loop-k-again c = (
+  omega arith,
+  below-more _ (c .loop-k .k) (c .loop-k .inv .1)
+      (λ s. let e = c .if-same-name .ensures tt .1 (subst (λ v. Same v (c .args .name .now)) (scope-at (c .args .binders .now) (c .args .depth) (c .loop-k .k) _ (c .if-depth-binders .left) (c .loop-k-test .taken)) s) in
+      let z : _≡_ {A = ℕ} 0 1 = cc in omega arith),
+)
 
 pub returns : need.returns
 returns c = record { within = tt; finds = λ h k b. c .loop-k .inv .1 k (omega (arith, bound-within (c .args .binders .now) (c .args .depth) (c .args .name .now) k h b)) (b .bears) }

@@ -18,6 +18,8 @@ returns-then-is-name c =
     }
 
 pub returns-else-is-name : need.returns-else-is-name
-returns-else-is-name c =
-    (refl, stray-name (c .args .text .now) (c .args .at) (c .run-end-end .result) _ (c .run-end-end .ensures .whole) refl (c .pre .0) (c .pre .1)
-       (λ i. let z = c .if-is-name .ensures tt .1 i in let n : _≡_ {A = ℕ} 0 1 = cc in omega arith))
+returns-else-is-name c = (
+  refl,
+  stray-name (c .args .text .now) (c .args .at) (c .run-end-end .result) _ (c .run-end-end .ensures .whole) refl (c .pre .0) (c .pre .1)
+      (λ i. let z = c .if-is-name .ensures tt .1 i in let n : _≡_ {A = ℕ} 0 1 = cc in omega arith),
+)

@@ -19,9 +19,10 @@ reference-at-requires c κs = (c .pre .0, mark-hash _ (sym (c .in-Mark .ensures 
 pub returns-in-Other : need.returns-in-Other
 returns-in-Other c =
     let text = c .args .text .now in
-    let at = c .args .at in
-    (refl,
-     ⊎-elim
-     (λ e. stray-other text at (c .pre .0) (sym (c .of .ensures) ∙ e))
-     (λ e. absurd (c .pre .1 (sym (c .of .ensures) ∙ e)))
-     (c .in-Other .is))
+    let at = c .args .at in (
+      refl,
+      ⊎-elim
+          (λ e. stray-other text at (c .pre .0) (sym (c .of .ensures) ∙ e))
+          (λ e. absurd (c .pre .1 (sym (c .of .ensures) ∙ e)))
+          (c .in-Other .is),
+    )

@@ -22,9 +22,14 @@ loop-byte-again c =
     let inv = c .loop-byte .inv in
     let d = c .in-Continue-n .ensures tt in
     let r = digit-range (getD (c .args .word .now) (c .loop-byte .byte-index) 0) (d .0) in
-    let i = c .loop-byte .byte-index in
-    (below-more _ i (inv .0) (d .0), numeral-next (c .args .word .now) i (c .loop-byte .n) _ (c .loop-byte-test .taken) (inv .1) (d .1),
-     λ h. absurd (omega arith), λ h. omega (arith, inv .2 (omega arith), d .1, r .1), λ h. omega (arith, inv .3 (omega arith), d .1, r .1), omega (arith, inv .4 (omega arith), d .1, r .1))
+    let i = c .loop-byte .byte-index in (
+      below-more _ i (inv .0) (d .0),
+      numeral-next (c .args .word .now) i (c .loop-byte .n) _ (c .loop-byte-test .taken) (inv .1) (d .1),
+      λ h. absurd (omega arith),
+      λ h. omega (arith, inv .2 (omega arith), d .1, r .1),
+      λ h. omega (arith, inv .3 (omega arith), d .1, r .1),
+      omega (arith, inv .4 (omega arith), d .1, r .1),
+    )
 
 pub returns : need.returns
 returns c =

@@ -60,10 +60,11 @@ application-atoms-again g t c =
     let inv = c .atoms .inv in
     let a = inv .0 in
     let next = c .in-Continue-next .ensures tt in
-    let b = next .advance in
-    (record { less = omega (arith, a .less, b .less); within = b .within; small = omega (arith, a .small, b .small, a .less, b .less) },
-     omega arith,
-     λ bs o lb lo m. covered-more _ _ _ bs _ _ _ o (c .atoms .out) (c .lift .last .memory) _ _ _ _ _ _ _ (c .first-of-unknown .ensures) (c .first-of-unfiled .ensures) (inv .2 bs o lb lo m) (omega arith) (omega arith) (c .lift .ensures) (omega arith) next)
+    let b = next .advance in (
+      record { less = omega (arith, a .less, b .less); within = b .within; small = omega (arith, a .small, b .small, a .less, b .less) },
+      omega arith,
+      λ bs o lb lo m. covered-more _ _ _ bs _ _ _ o (c .atoms .out) (c .lift .last .memory) _ _ _ _ _ _ _ (c .first-of-unknown .ensures) (c .first-of-unfiled .ensures) (inv .2 bs o lb lo m) (omega arith) (omega arith) (c .lift .ensures) (omega arith) next,
+    )
 
 pub application-returns : need.application-returns
 application-returns g t c =
@@ -123,15 +124,17 @@ pub atom-returns-in-rest : need.atom-returns-in-rest
 atom-returns-in-rest g t c =
     let next = c .in-Continue-found .ensures tt (c .pre .inside) in
     let f = c .in-Some .found in
-    let rest = c .in-rest in
-    (λ ts r nl k. blames-here _ _ _ next (start k) f ts (c .in-Some .is) tt (start-stuck k _ _ (not-lambda _ _ _ next ts r f (c .in-Some .is) nl) (rest .not-Name) (rest .not-Reference) (rest .not-Open)) r,
-     λ ts r go h k. blames-here _ _ _ next (after h k) f ts (c .in-Some .is) tt (after-stuck h k _ _ (not-close _ _ _ next ts r f (c .in-Some .is) go) (rest .not-Name) (rest .not-Reference) (rest .not-Open)) r)
+    let rest = c .in-rest in (
+      λ ts r nl k. blames-here _ _ _ next (start k) f ts (c .in-Some .is) tt (start-stuck k _ _ (not-lambda _ _ _ next ts r f (c .in-Some .is) nl) (rest .not-Name) (rest .not-Reference) (rest .not-Open)) r,
+      λ ts r go h k. blames-here _ _ _ next (after h k) f ts (c .in-Some .is) tt (after-stuck h k _ _ (not-close _ _ _ next ts r f (c .in-Some .is) go) (rest .not-Name) (rest .not-Reference) (rest .not-Open)) r,
+    )
 
 pub atom-returns-in-None : need.atom-returns-in-None
 atom-returns-in-None g t c =
-    let next = c .in-Continue-found .ensures tt (c .pre .inside) in
-    (λ ts r nl k. blames-end _ _ _ next (start k) ts (c .in-None .is) tt refl r,
-     λ ts r go f k. absurd (not-none _ _ _ next ts r (c .in-None .is) go))
+    let next = c .in-Continue-found .ensures tt (c .pre .inside) in (
+      λ ts r nl k. blames-end _ _ _ next (start k) ts (c .in-None .is) tt refl r,
+      λ ts r go f k. absurd (not-none _ _ _ next ts r (c .in-None .is) go),
+    )
 
 pub expression-returns-in-Break-head : need.expression-returns-in-Break-head
 expression-returns-in-Break-head g t c =

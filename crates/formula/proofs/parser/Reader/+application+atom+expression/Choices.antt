@@ -23,8 +23,8 @@ Inv-application-atoms g l =
     Advance (now (l .self .lexer .text)) (l .from) (l .reach)
     × (length (l .binders) ≡ length (l .entry .binders))
     × ((b : List (RefT (List ℕ))) (o : List TermNode) → length b ≡ length (l .entry .binders) → length o ≡ length (l .entry .out)
-      → Covered application (now (l .self .lexer .text)) (g .C·Catalogue .entries (now (l .self .catalogue))) (l .self .filed) b (l .entry .binders) (l .depth) o (l .entry .out) (l .at) (l .from) (l .entry .reach)
-      → Covered application (now (l .self .lexer .text)) (g .C·Catalogue .entries (now (l .self .catalogue))) (l .self .filed) b (l .binders) (l .depth) o (l .out) (l .at) (l .from) (l .reach))
+    → Covered application (now (l .self .lexer .text)) (g .C·Catalogue .entries (now (l .self .catalogue))) (l .self .filed) b (l .entry .binders) (l .depth) o (l .entry .out) (l .at) (l .from) (l .entry .reach)
+    → Covered application (now (l .self .lexer .text)) (g .C·Catalogue .entries (now (l .self .catalogue))) (l .self .filed) b (l .binders) (l .depth) o (l .out) (l .at) (l .from) (l .reach))
 
 abbrev pub μ-application-atoms : given.MeasureT-application-atoms
 μ-application-atoms g l = length (now (l .self .lexer .text)) - l .reach .end
