@@ -91,3 +91,6 @@ pub fn check<E: Source, K: Source>(
         Some(at) => Err(CheckFault::Step(at)),
     }
 }
+
+#[cfg(test)]
+mod tests;
