@@ -13,7 +13,7 @@ use Rattle.types.specs.Types.{Ty, variable, base, branch, apply}
 use Rattle.types.specs.Lists.{zero-node, Lawful, type-at}
 use Rattle.instance.specs.Once.{Once}
 use Rattle.instance.specs.Matching.{Gave, Taken, Given, Pending, Within, Passed, Clash, Stepped}
-use Rattle.instance.proofs.Reading.{lower-at, at-variable, at-base, at-branch}
+use Rattle.types.proofs.Reading.{lower-at, at-variable, at-base, at-branch}
 use Rattle.instance.proofs.Places.{kind-of, number-of, left-of, right-of, kind-at, places-are-types}
 use Rattle.instance.proofs.Tables.{OfPlaces, gave-onto, gave-back}
 

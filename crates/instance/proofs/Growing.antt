@@ -10,7 +10,7 @@ use Rattle.std.proofs.shelf.Tests.{cases-eq}
 use Rattle.types.specs.declared.TypeNode.{TypeNode}
 use Rattle.types.specs.Lists.{zero-node, LawfulNode, shape, reading, type-at}
 use Rattle.instance.specs.Once.{Absent, Once}
-use Rattle.instance.proofs.Reading.{shape-same, lower-at}
+use Rattle.types.proofs.Reading.{shape-same, lower-at}
 
 abbrev pub LawfulNodes : List TypeNode → Type 0
 LawfulNodes m = (p : ℕ) → p < length m → LawfulNode p (getD m p zero-node)

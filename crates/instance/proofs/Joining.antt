@@ -12,7 +12,7 @@ use Rattle.types.specs.declared.TypeNode.{TypeNode}
 use Rattle.types.specs.Types.{branch}
 use Rattle.types.specs.Lists.{node, zero-node, LawfulNode, Lawful, shape, reading, type-at}
 use Rattle.instance.specs.Merging.{moved, Keeps, Merged}
-use Rattle.instance.proofs.Reading.{shape-same, lower-at, at-branch}
+use Rattle.types.proofs.Reading.{shape-same, lower-at, at-branch}
 use Rattle.instance.proofs.Growing.{Grows, grows}
 
 module _ (l : List TypeNode) (law : Lawful l) (m : List TypeNode) (places : List ℕ) (n : ℕ) (here : n < length l) (was : Merged l m places n) where

@@ -11,7 +11,7 @@ use Rattle.types.specs.declared.TypeNode.{TypeNode}
 use Rattle.types.specs.Types.{Ty, variable, base, branch}
 use Rattle.types.specs.Lists.{node, zero-node, LawfulNode, shape, type-at}
 use Rattle.instance.specs.Once.{Absent, Once, Places-are-types}
-use Rattle.instance.proofs.Reading.{lower-at, at-branch}
+use Rattle.types.proofs.Reading.{lower-at, at-branch}
 
 -- ---- what a type is made of
 

@@ -14,7 +14,7 @@ use Rattle.types.specs.Types.{Ty}
 use Rattle.types.specs.Lists.{zero-node, Lawful, shape, type-at}
 use Rattle.printing.specs.Text.{letters, in-brackets, left-part, is-arrow, text, left-text}
 use Rattle.printing.specs.Writing.{capped, Measured}
-use Rattle.printing.proofs.Reading.{lower-at, at-variable, at-branch}
+use Rattle.types.proofs.Reading.{lower-at, at-variable, at-branch}
 
 shape-arrow : (k n : ℕ) (a b : Ty) → is-arrow (shape k n a b) ≡ eqb k 2
 shape-arrow zero n a b = refl

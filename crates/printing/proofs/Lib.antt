@@ -1,4 +1,3 @@
 pub mod Spelling
 pub mod Over
-pub mod Reading
 pub mod Lengths

@@ -8,7 +8,7 @@ use Rattle.types.specs.declared.TypeNode.{TypeNode}
 use Rattle.types.specs.Lists.{zero-node, Lawful, type-at}
 use Rattle.printing.specs.Text.{text, left-text}
 use Rattle.printing.specs.Writing.{Wrote}
-use Rattle.printing.proofs.Reading.{lower-at}
+use Rattle.types.proofs.Reading.{lower-at}
 use Rattle.printing.proofs.Lengths.{text-variable, text-arrow, arrow-long, left-bracketed, bracketed-long}
 use Rattle.printing.proofs.Over.{three-pieces}
 use Rattle.printing.proofs.+write+write_left.Needs as need

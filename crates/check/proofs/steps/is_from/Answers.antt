@@ -1,0 +1,5 @@
+use Rattle.check.proofs.Arrows.{decides-from}
+use Rattle.check.proofs.steps.is_from.Needs as need
+
+pub returns-then-node-eq-ARROW : need.returns-then-node-eq-ARROW
+returns-then-node-eq-ARROW c = decides-from (c .args .list .now) (c .pre .lawful) (c .pre .once) (c .args .whole) (c .pre .whole) (c .if-node-eq-ARROW .taken) (c .args .part) (c .pre .part)

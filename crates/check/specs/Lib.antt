@@ -1,0 +1,4 @@
+pub mod Prefixes
+pub mod Steps
+pub mod Checking
+pub mod Faults
