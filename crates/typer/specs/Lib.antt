@@ -1,0 +1,4 @@
+pub mod Faults
+pub mod Questions
+pub mod Answers
+pub mod Nodes
