@@ -30,6 +30,12 @@ pub fn clear_numbers(numbers: &mut [u32])
     numbers.fill(0);
 }
 
+pub fn clear_places(places: &mut [u16])
+    ensures { λ _. ⌜ Zeros (now (places .exit)) ⌝ }
+{
+    places.fill(0);
+}
+
 // Writes numbers below 65,536 into as many places.
 fn narrow(numbers: &[u32], places: &mut [u16])
     requires long { ⌜ length (now numbers) ≡ length (now places) ⌝ }

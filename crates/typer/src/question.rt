@@ -5,8 +5,10 @@ ghost use lib.ListN.{length};
 ghost use Rattle.std.specs.Options.{Cases as BySome};
 ghost use Rattle.std.specs.Results.{Cases};
 ghost use Rattle.infer.specs.Heads.{need};
-ghost use Rattle.typer.specs.Faults.{says};
+ghost use Rattle.typer.specs.Faults.{says, derive-says};
+ghost use Rattle.typer.specs.Derivations.{Roomy, Roomless};
 ghost use Rattle.typer.specs.Questions.{numbers-needed, Few, Served, Unserved};
+use crate::fault::DeriveFault;
 use crate::fault::TypesFault;
 use copy::Source;
 use infer::needed;
@@ -56,6 +58,34 @@ pub fn ask<E: Source, K: Source>(
     }
     if (numbers as u128) < numbers_needed(records, terms.len()) {
         return Err(TypesFault::NoNumberRoom);
+    }
+    Ok(records)
+}
+
+// Whether the derivation of a term has room in memories of so many records, places and numbers: how many records it
+// needs, or the first question that is answered with no.
+pub fn ask_derivation<E: Source, K: Source>(
+    entries: &E,
+    kept: &K,
+    terms: &[TermNode],
+    types: usize,
+    places: usize,
+    numbers: usize,
+) -> Result<usize, DeriveFault>
+    ensures { λ r. ⌜ Cases r (λ n. Roomy (need (E·Source .list (now (entries .entry))) (K·Source .list (now (kept .entry))) (now (terms .entry))) (length (now (terms .entry))) types places numbers n) (λ f. Roomless (need (E·Source .list (now (entries .entry))) (K·Source .list (now (kept .entry))) (now (terms .entry))) (length (now (terms .entry))) types places numbers (derive-says f)) ⌝ }
+{
+    let records = match few_records(entries, kept, terms) {
+        Some(records) => records,
+        None => return Err(DeriveFault::NoTypeRoom),
+    };
+    if types < records {
+        return Err(DeriveFault::NoTypeRoom);
+    }
+    if places < terms.len() {
+        return Err(DeriveFault::NoPlaceRoom);
+    }
+    if (numbers as u128) < numbers_needed(records, terms.len()) {
+        return Err(DeriveFault::NoNumberRoom);
     }
     Ok(records)
 }
