@@ -1,0 +1,4 @@
+pub mod Mapped
+pub mod Solved
+pub mod Wholes
+pub mod Renamed

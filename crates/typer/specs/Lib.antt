@@ -1,0 +1,5 @@
+pub mod Faults
+pub mod Questions
+pub mod Answers
+pub mod Nodes
+pub mod Derivations
