@@ -1,11 +1,11 @@
--- A principal typing with its variables numbered anew is principal, and its list begins with that of the root's type.
+-- A principal typing with its variables numbered anew is principal; its list begins with that of the root's type.
 use mathlib.Core.Path.{_≡_, refl, sym, ap, ap₂, subst, _∙_}
-use mathlib.Core.List.{List, [], _∷_, _++_, append-nil}
+use mathlib.Core.List.{List, [], _∷_, _++_, map}
 use Prim.Native.Nat.{ℕ, _+_, _-_, _<_, _≤_}
 use native.Mathlib.Omega.{arith}
 use lib.ListN.{length, getD, take, drop, replicate}
 use Rattle.std.specs.shelf.Lists.{All}
-use Rattle.std.proofs.shelf.Lists.{length-append, take-all, getD-append-left, getD-append-right, getD-replicate, getD-past}
+use Rattle.std.proofs.shelf.Lists.{length-map, getD-map, ext-getD, take-all, getD-append-left, getD-append-right, getD-replicate, getD-past}
 use Rattle.std.proofs.shelf.Elements.{all-from-getD}
 use Rattle.std.proofs.shelf.Tests.{cases-lt}
 use mathlib.Core.Logic.{⊎-elim}
@@ -23,8 +23,8 @@ use Rattle.normal.specs.Laws.{Proper, Simple, numbered}
 use Rattle.normal.specs.Built.{none}
 use Rattle.normal.proofs.Parts.{parts-built}
 use Rattle.normal.proofs.Meaning.{normal-means, normal-once, normal-lawful, normal-begins, parts-have, variable-at, renumbered, apply-apply}
-use Rattle.normal.proofs.Rename.{mutual-keeps-list}
-use Rattle.typer.specs.Answers.{PrincipalType, PrincipalTyping, Cleared, Zeros}
+use Rattle.normal.proofs.Rename.{mutual-keeps-list, renaming-keeps-list}
+use Rattle.typer.specs.Answers.{PrincipalType, PrincipalTyping, Cleared, Zeros, One-type-list, One-typing-list}
 use Rattle.typer.specs.Nodes.{of, NodesListed}
 use Rattle.typer.specs.Derivations.{Derived}
 use Rattle.typer.proofs.Mapped.{typing-mapped, list-applied, principal-type, principal-simple}
@@ -97,3 +97,19 @@ module _ (E K : Lists) (ts : List TermNode) (we : (k : ℕ) → 0 < length (E k)
             (λ k h. ap (type-at (normal us)) (stands k (omega arith)) ∙ normal-means .1 us k (l .proper) (omega arith));
         begins = λ t e. derivation-begins E K t us (omega arith) (l .proper) (principal-type E K t (of us) (l .principal t e));
       }
+
+-- ---- one list for all
+
+pub one-type-list : One-type-list
+one-type-list E K t τ υ p q = mutual-keeps-list τ υ (p .general υ (q .type)) (q .general τ (p .type))
+
+all-instances : (t : Term) (us vs : List Ty) (σ : ℕ → Ty) → length us ≡ size t → length vs ≡ size t → ((p : ℕ) → p < size t → apply σ (of us p) ≡ of vs p) → map (apply σ) us ≡ vs
+all-instances t us vs σ lu lv e =
+    ext-getD (variable 0) (map (apply σ) us) vs (length-map us (apply σ) ∙ lu ∙ sym lv)
+    (λ p h. let hp : p < length us = omega (arith, length-map us (apply σ)) in getD-map (apply σ) us p (variable 0) (variable 0) hp ∙ e p (omega arith))
+
+pub one-typing-list : One-typing-list
+one-typing-list E K t us vs lu lv p q =
+    let there = p .general (of vs) (q .typing) in
+    let back = q .general (of us) (p .typing) in
+    renaming-keeps-list us vs (there .0) (back .0) (all-instances t us vs (there .0) lu lv (there .1)) (all-instances t vs us (back .0) lv lu (back .1))

@@ -2,19 +2,19 @@
 use mathlib.Core.Path.{_≡_}
 use mathlib.Core.List.{List, [], _++_}
 use Prim.Native.Nat.{ℕ, _-_, _<_, _≤_}
-use lib.ListN.{length, replicate}
+use lib.ListN.{length, getD, replicate}
 use Rattle.refusal.specs.Saying.{saying}
 use Rattle.refusal.specs.declared.Layer.the-variants as layer
 use Rattle.refusal.specs.declared.Refusal.{Refusal}
 use Rattle.types.specs.declared.TypeNode.{TypeNode}
-use Rattle.types.specs.Types.{Ty, apply, Instance}
+use Rattle.types.specs.Types.{Ty, variable, apply, Instance}
 use Rattle.types.specs.Lists.{zero-node, Lawful}
 use Rattle.term.specs.declared.TermNode.{TermNode}
 use Rattle.term.specs.Terms.{Term, prefix}
 use Rattle.copy.specs.Instances.{Lists}
 use Rattle.infer.specs.Typing.{size, Typing, HasType}
 use Rattle.infer.specs.Heads.{need}
-use Rattle.normal.specs.Normal.{normal-of}
+use Rattle.normal.specs.Normal.{normal, normal-of}
 use Rattle.typer.specs.Questions.{Serves, Unserved}
 
 -- τ is a type of t, and every type of t is an instance of it
@@ -53,3 +53,13 @@ pub record Typed (E K : Lists) (ts : List TermNode) (types : List TypeNode) (num
 pub data Refuses (E K : Lists) (ts : List TermNode) (types types′ : List TypeNode) (numbers numbers′ : List ℕ) : Refusal → Type 0 where
   unserved : {r : Refusal} → Unserved (need E K ts) (length ts) (length types) (length numbers) r → types′ ≡ types → numbers′ ≡ numbers → Refuses E K ts types types′ numbers numbers′ r
   no-type : Serves (need E K ts) (length ts) (length types) (length numbers) → NoTypes E K ts → Cleared types′ → Zeros numbers′ → Refuses E K ts types types′ numbers numbers′ (saying 40 layer.Types 0)
+
+-- The answers hang on the term and the lists alone: all most general types of a term have one normal list,
+abbrev pub One-type-list : Type 0
+One-type-list = (E K : Lists) (t : Term) (τ υ : Ty) → PrincipalType E K t τ → PrincipalType E K t υ → normal-of τ ≡ normal-of υ
+
+-- and so have all most general typings.
+abbrev pub One-typing-list : Type 0
+One-typing-list =
+    (E K : Lists) (t : Term) (us vs : List Ty) → length us ≡ size t → length vs ≡ size t
+    → PrincipalTyping E K t (λ p. getD us p (variable 0)) → PrincipalTyping E K t (λ p. getD vs p (variable 0)) → normal us ≡ normal vs

@@ -4,7 +4,7 @@ ghost use Prim.Native.Nat.{ℕ};
 ghost use lib.ListN.{length};
 ghost use Rattle.std.specs.Results.{Cases};
 ghost use Rattle.typer.specs.Faults.{says, derive-says};
-ghost use Rattle.typer.specs.Answers.{Typed, Refuses};
+ghost use Rattle.typer.specs.Answers.{Typed, Refuses, One-type-list, One-typing-list};
 ghost use Rattle.typer.specs.Derivations.{Derived, Underived};
 use crate::fault::DeriveFault;
 use crate::fault::TypesFault;
@@ -21,6 +21,14 @@ use types::TypeNode;
 pub mod fault;
 mod nodes;
 pub mod question;
+
+// The lists that are answered do not hang on what the memories held, or how long they are.
+pub fn one_answer_stands() -> u8
+    ensures types { λ _. ⌜ One-type-list ⌝ }
+    ensures typings { λ _. ⌜ One-typing-list ⌝ }
+{
+    0
+}
 
 // The most general type of a term over the lists of a catalogue and of kept formulas: its normal list is written to the
 // type memory, with zero nodes behind it, and the number of its records answered. The numbers are zeros then. A refusal
@@ -96,3 +104,6 @@ pub fn derive<E: Source, K: Source>(
         }
     }
 }
+
+#[cfg(test)]
+mod tests;
