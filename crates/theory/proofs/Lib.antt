@@ -1,0 +1,4 @@
+pub mod Types
+pub mod Expansions
+pub mod Kept
+pub mod Principals

@@ -1,0 +1,4 @@
+pub mod Closed
+pub mod Expansion
+pub mod Principal
+pub mod Laws
