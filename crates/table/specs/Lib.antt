@@ -1,0 +1,4 @@
+pub mod Rows
+pub mod WellFormed
+pub mod Entries
+pub mod View
