@@ -1,2 +1,4 @@
 pub mod Terms
 pub mod Tests
+pub mod Ends
+pub mod Views

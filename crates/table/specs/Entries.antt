@@ -20,14 +20,23 @@ part start n nodes = take n (drop start nodes)
 abbrev pub row-at : List TermNode → List TypeNode → Entry → Row
 row-at terms types e = row (part (e .«term_start») (e .«term_length») terms) (part (e .«list_start») (e .«list_length») types)
 
--- where the first k entries end in the two memories
-abbrev pub term-end : List Entry → ℕ → ℕ
-term-end es zero = 0
-term-end es (suc k) = getD es k no-entry .«term_start» + getD es k no-entry .«term_length»
+-- where an entry begins and how long it is, in the one memory and in the other
+abbrev pub term-start : Entry → ℕ
+term-start e = e .«term_start»
 
-abbrev pub list-end : List Entry → ℕ → ℕ
-list-end es zero = 0
-list-end es (suc k) = getD es k no-entry .«list_start» + getD es k no-entry .«list_length»
+abbrev pub term-long : Entry → ℕ
+term-long e = e .«term_length»
+
+abbrev pub list-start : Entry → ℕ
+list-start e = e .«list_start»
+
+abbrev pub list-long : Entry → ℕ
+list-long e = e .«list_length»
+
+-- where the first k entries end
+abbrev pub end-of : (Entry → ℕ) → (Entry → ℕ) → List Entry → ℕ → ℕ
+end-of start long es zero = 0
+end-of start long es (suc k) = start (getD es k no-entry) + long (getD es k no-entry)
 
 -- the entries in use: those filed, and the candidate if there is one
 abbrev pub in-use : ℕ → Bool → ℕ
@@ -35,11 +44,8 @@ in-use count false = count
 in-use count true = suc count
 
 -- the first n entries lie one behind the other
-abbrev pub TermsInOrder : List Entry → ℕ → Type 0
-TermsInOrder es n = (k : ℕ) → k < n → getD es k no-entry .«term_start» ≡ term-end es k
-
-abbrev pub ListsInOrder : List Entry → ℕ → Type 0
-ListsInOrder es n = (k : ℕ) → k < n → getD es k no-entry .«list_start» ≡ list-end es k
+abbrev pub InOrder : (Entry → ℕ) → (Entry → ℕ) → List Entry → ℕ → Type 0
+InOrder start long es n = (k : ℕ) → k < n → start (getD es k no-entry) ≡ end-of start long es k
 
 -- the first n rows may be kept
 abbrev pub RowsPass : List Entry → List TermNode → List TypeNode → ℕ → Type 0

@@ -2,3 +2,5 @@ pub mod Rows
 pub mod WellFormed
 pub mod Entries
 pub mod View
+pub mod Places
+pub mod Filed

@@ -2,3 +2,5 @@
 pub mod entry;
 pub mod table;
 mod change;
+mod read;
+mod nodes;

@@ -2,7 +2,7 @@
 ghost use mathlib.Core.Path.{_≡_};
 ghost use Prim.Native.Nat.{ℕ, _+_, _<_, _≤_};
 ghost use lib.ListN.{length};
-ghost use Rattle.table.specs.Entries.{in-use, term-end, list-end, TermsInOrder, ListsInOrder, RowsPass};
+ghost use Rattle.table.specs.Entries.{in-use, term-start, term-long, list-start, list-long, end-of, InOrder, RowsPass};
 use crate::entry::Entry;
 use term::TermNode;
 use types::TypeNode;
@@ -20,9 +20,9 @@ pub struct Table {
     ghost terms_long: { length terms ≡ 4096 },
     ghost types_long: { length types ≡ 4096 },
     ghost few: { in-use count «open» ≤ 128 },
-    ghost terms_order: { TermsInOrder entries (in-use count «open») },
-    ghost lists_order: { ListsInOrder entries (in-use count «open») },
-    ghost terms_within: { term-end entries (in-use count «open») ≤ 4096 },
-    ghost lists_within: { list-end entries (in-use count «open») ≤ 4096 },
+    ghost terms_order: { InOrder term-start term-long entries (in-use count «open») },
+    ghost lists_order: { InOrder list-start list-long entries (in-use count «open») },
+    ghost terms_within: { end-of term-start term-long entries (in-use count «open») ≤ 4096 },
+    ghost lists_within: { end-of list-start list-long entries (in-use count «open») ≤ 4096 },
     ghost rows_pass: { RowsPass entries terms types (in-use count «open») },
 }
