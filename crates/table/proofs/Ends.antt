@@ -9,6 +9,7 @@ use native.Mathlib.Omega.{arith}
 use lib.ListN.{length, getD, take, drop, set, length-set}
 use lib.Seq.{paste}
 use Rattle.std.proofs.shelf.Lists.{append-nil, append-assoc, length-take-le, length-drop, length-map, drop-take, take-take, take-append-le, drop-at, take-at, take-all, getD-take, getD-drop, getD-map, getD-set-same, getD-set-other, same-lists, map-more, take-more}
+use Rattle.std.proofs.shelf.Edits.{paste-more}
 use Rattle.std.proofs.shelf.Tests.{cases-eq}
 use Rattle.table.specs.declared.entry.Entry.{Entry}
 use Rattle.table.specs.Rows.{Row, no-row}
@@ -22,6 +23,13 @@ module _ {A : Type 0} (start n : ℕ) (xs : List A) (h : start + n ≤ length xs
 
   pub part-at : (i : ℕ) (d : A) → i < n → getD (part start n xs) i d ≡ getD xs (start + i) d
   part-at i d lt = getD-take n (drop start xs) i d lt ∙ getD-drop start xs i d
+
+-- one node more copied from a part
+pub copied-more : {A : Type 0} (from to was : List A) (start at i : ℕ) (x : A) → to ≡ paste was at (drop start from) i → start + i < length from → at + i < length was → x ≡ getD from (start + i) x → set to (at + i) x ≡ paste was at (drop start from) (i + 1)
+copied-more {A} from to was start at i x e there room is =
+    ap (λ (ys : List A). set ys (at + i) x) e
+    ∙ ap (λ (y : A). set (paste was at (drop start from) i) (at + i) y) (is ∙ sym (getD-drop start from i x))
+    ∙ paste-more was at (drop start from) i x room (omega (arith, length-drop start from))
 
 -- what is written behind a part leaves it
 pub part-before : {A : Type 0} (start n at m : ℕ) (xs s : List A) → start + n ≤ at → at ≤ length xs → part start n (paste xs at s m) ≡ part start n xs

@@ -2,3 +2,4 @@ pub mod Terms
 pub mod Tests
 pub mod Ends
 pub mod Views
+pub mod Changes

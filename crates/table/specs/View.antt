@@ -69,7 +69,7 @@ abbrev pub dismissed : View → View
 dismissed v = record { rows = v .rows; candidate = None }
 
 abbrev pub withdrawn : View → View
-withdrawn v = record { rows = take (length (v .rows) - 1) (v .rows); candidate = v .candidate }
+withdrawn v = record { rows = take (length (v .rows) - 1) (v .rows); candidate = None }
 
 -- what a memory holds when nodes are written over its front, as many as it has room for
 abbrev pub overlaid : {A : Type 0} → List A → List A → List A
