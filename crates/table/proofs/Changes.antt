@@ -42,14 +42,28 @@ pub fewer-rows : (t : Table) (m : ℕ) → m ≤ in-use (t .count) (t .«open»)
 fewer-rows t m h =
     let n : ℕ = in-use (t .count) (t .«open») in (
       t .«entries_long»,
-      (t .«terms_long»,
-      (t .«types_long»,
-      (omega (arith, t .few),
-      (fewer-in-order term-start term-long (t .entries) n m h (t .«terms_order»),
-      (fewer-in-order list-start list-long (t .entries) n m h (t .«lists_order»),
-      (omega (arith, ends-rise term-start term-long (t .entries) n (t .«terms_order») m h, t .«terms_within»),
-      (omega (arith, ends-rise list-start list-long (t .entries) n (t .«lists_order») m h, t .«lists_within»),
-      ((λ k lt. t .«rows_pass» k (omega arith)), tt))))))))
+      (
+        t .«terms_long»,
+        (
+          t .«types_long»,
+          (
+            omega (arith, t .few),
+            (
+              fewer-in-order term-start term-long (t .entries) n m h (t .«terms_order»),
+              (
+                fewer-in-order list-start list-long (t .entries) n m h (t .«lists_order»),
+                (
+                  omega (arith, ends-rise term-start term-long (t .entries) n (t .«terms_order») m h, t .«terms_within»),
+                  (
+                    omega (arith, ends-rise list-start list-long (t .entries) n (t .«lists_order») m h, t .«lists_within»),
+                    ((λ k lt. t .«rows_pass» k (omega arith)), tt),
+                  ),
+                ),
+              ),
+            ),
+          ),
+        ),
+      ),
     )
 
 -- a candidate, its nodes written behind those of all rows
@@ -109,24 +123,38 @@ module _ (t : Table) (term : List TermNode) (list : List TypeNode) (s u : ℕ) (
   rows-pass k h =
       ⊎-elim
       (λ (e : k ≡ t .count).
-        subst (λ (m : ℕ). row-passes m (row-at terms types (getD new-entries m no-entry)) ≡ true) (sym e)
-        (ap (row-passes (t .count)) row-new ∙ proper-row (t .count) (row term list) (subst (λ (m : ℕ). Proper m (row term list)) (rows-long t) proper)))
+      subst (λ (m : ℕ). row-passes m (row-at terms types (getD new-entries m no-entry)) ≡ true) (sym e)
+      (ap (row-passes (t .count)) row-new ∙ proper-row (t .count) (row term list) (subst (λ (m : ℕ). Proper m (row term list)) (rows-long t) proper)))
       (λ (ne : k ≢ t .count).
-        (let lt : k < t .count = omega arith in
-        ap (row-passes k) (row-stays k lt) ∙ t .«rows_pass» k (omega (arith, none-open))))
+      (let lt : k < t .count = omega arith in
+      ap (row-passes k) (row-stays k lt) ∙ t .«rows_pass» k (omega (arith, none-open))))
       (cases-eq k (t .count))
 
   pub put-invariant : Invariant new-entries terms types (suc (t .count))
   put-invariant = (
     length-set (t .entries) (t .count) new-entry ∙ t .«entries_long»,
-    (ap length written-s ∙ length-paste (t .terms) s term (length term) (omega (arith, at-s, room-s, t .«terms_long»)) (omega arith) ∙ t .«terms_long»,
-    (ap length written-u ∙ length-paste (t .types) u list (length list) (omega (arith, at-u, room-u, t .«types_long»)) (omega arith) ∙ t .«types_long»,
-    (omega (arith, place),
-    (order-set term-start term-long (t .entries) (t .count) new-entry within terms-order s-end,
-    (order-set list-start list-long (t .entries) (t .count) new-entry within lists-order u-end,
-    (omega (arith, end-added term-start term-long (t .entries) (t .count) new-entry within, at-s, room-s),
-    (omega (arith, end-added list-start list-long (t .entries) (t .count) new-entry within, at-u, room-u),
-    (rows-pass, tt))))))))
+    (
+      ap length written-s ∙ length-paste (t .terms) s term (length term) (omega (arith, at-s, room-s, t .«terms_long»)) (omega arith) ∙ t .«terms_long»,
+      (
+        ap length written-u ∙ length-paste (t .types) u list (length list) (omega (arith, at-u, room-u, t .«types_long»)) (omega arith) ∙ t .«types_long»,
+        (
+          omega (arith, place),
+          (
+            order-set term-start term-long (t .entries) (t .count) new-entry within terms-order s-end,
+            (
+              order-set list-start list-long (t .entries) (t .count) new-entry within lists-order u-end,
+              (
+                omega (arith, end-added term-start term-long (t .entries) (t .count) new-entry within, at-s, room-s),
+                (
+                  omega (arith, end-added list-start list-long (t .entries) (t .count) new-entry within, at-u, room-u),
+                  (rows-pass, tt),
+                ),
+              ),
+            ),
+          ),
+        ),
+      ),
+    ),
   )
 
   pub put-view : record { rows = map (row-at terms types) (take (t .count) new-entries); candidate = candidate-if true (row-at terms types (getD new-entries (t .count) no-entry)) } ≡ with-candidate (view t) (row term list)

@@ -56,9 +56,9 @@ module _ (start long : Entry → ℕ) where
       ⊎-elim
       (λ (e : k ≡ suc n). (let q : end-of start long es k ≡ end-of start long es (suc n) = ap (end-of start long es) e in omega arith))
       (λ (ne : k ≢ suc n).
-        (let below : end-of start long es k ≤ end-of start long es n = ends-rise es n (λ j lt. order j (omega arith)) k (omega arith) in
-        let here : start (getD es n no-entry) ≡ end-of start long es n = order n (omega arith) in
-        omega arith))
+      (let below : end-of start long es k ≤ end-of start long es n = ends-rise es n (λ j lt. order j (omega arith)) k (omega arith) in
+      let here : start (getD es n no-entry) ≡ end-of start long es n = order n (omega arith) in
+      omega arith))
       (cases-eq k (suc n))
 
   pub last-end : (es : List Entry) (n : ℕ) → (n ≡ 0 → ⊥) → start (getD es (n - 1) no-entry) + long (getD es (n - 1) no-entry) ≡ end-of start long es n
@@ -83,11 +83,11 @@ module _ (start long : Entry → ℕ) where
   order-set es n e room order here k lt =
       ⊎-elim
       (λ (q : k ≡ n).
-        subst (λ (m : ℕ). start (getD (set es n e) m no-entry) ≡ end-of start long (set es n e) m) (sym q)
-        (ap start (getD-set-same es n e no-entry room) ∙ here ∙ sym (end-set es n e n (omega arith))))
+      subst (λ (m : ℕ). start (getD (set es n e) m no-entry) ≡ end-of start long (set es n e) m) (sym q)
+      (ap start (getD-set-same es n e no-entry room) ∙ here ∙ sym (end-set es n e n (omega arith))))
       (λ (ne : k ≢ n).
-        (let low : k < n = omega arith in
-        ap start (getD-set-other es n k e no-entry ne) ∙ order k low ∙ sym (end-set es n e k (omega arith))))
+      (let low : k < n = omega arith in
+      ap start (getD-set-other es n k e no-entry ne) ∙ order k low ∙ sym (end-set es n e k (omega arith))))
       (cases-eq k n)
 
   pub end-added : (es : List Entry) (n : ℕ) (e : Entry) → n < length es → end-of start long (set es n e) (suc n) ≡ start e + long e
@@ -117,9 +117,9 @@ rows-alike f g es fs n he hf each =
     let mf = length-map (take n fs) g in
     same-lists (map f (take n es)) (map g (take n fs)) (omega arith)
     (λ k d h.
-      (let lt : k < n = omega arith in
-      getD-map f (take n es) k no-entry d (omega arith)
-      ∙ ap f (getD-take n es k no-entry lt)
-      ∙ each k lt
-      ∙ sym (ap g (getD-take n fs k no-entry lt))
-      ∙ sym (getD-map g (take n fs) k no-entry d (omega arith))))
+    (let lt : k < n = omega arith in
+    getD-map f (take n es) k no-entry d (omega arith)
+    ∙ ap f (getD-take n es k no-entry lt)
+    ∙ each k lt
+    ∙ sym (ap g (getD-take n fs k no-entry lt))
+    ∙ sym (getD-map g (take n fs) k no-entry d (omega arith))))

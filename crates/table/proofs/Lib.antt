@@ -3,3 +3,4 @@ pub mod Tests
 pub mod Ends
 pub mod Views
 pub mod Changes
+pub mod Readings

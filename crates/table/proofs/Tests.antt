@@ -38,9 +38,9 @@ list-pass l h =
     let each : every node-passes 0 l ≡ true =
     every-from node-passes zero-node l 0
     (λ k lt.
-      (let x : TypeNode = getD l k zero-node in
-      let e : k ≡ 0 + k = omega arith in
-      subst (λ (m : ℕ). node-passes m x ≡ true) e (node-pass k (x .kind) (x .left) (x .right) (h .each k lt)))) in
+    (let x : TypeNode = getD l k zero-node in
+    let e : k ≡ 0 + k = omega arith in
+    subst (λ (m : ℕ). node-passes m x ≡ true) e (node-pass k (x .kind) (x .left) (x .right) (h .each k lt)))) in
     both-from (ltb 0 (length l)) _ (lt-ltb 0 (length l) (h .some)) (both-from (leb (length l) 4096) _ (le-leb (length l) 4096 (h .few)) each)
 
 pub row-proper : (k : ℕ) (r : Row) → row-passes k r ≡ true → Proper k r

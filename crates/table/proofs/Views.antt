@@ -11,7 +11,8 @@ use Rattle.table.specs.declared.table.Table.{Table}
 use Rattle.table.specs.Rows.{Row, no-row, Proper}
 use Rattle.table.specs.Entries.{no-entry, row-at, in-use, end-of, term-start, term-long, list-start, list-long}
 use Rattle.table.specs.View.{view, candidate-if, held, is-held, kept, kept-row, total, term-nodes, list-nodes, AllProper}
-use Rattle.table.specs.Filed.{rows-long}
+use Rattle.table.specs.Places.{Places}
+use Rattle.table.specs.Filed.{filed-list, rows-long}
 use Rattle.table.proofs.Ends.{part-length, entry-within, total-ends}
 use Rattle.table.proofs.Tests.{row-proper}
 
@@ -74,3 +75,12 @@ module _ (t : Table) where
   -- a filed row by its number among all
   pub kept-filed : (k : ℕ) → k < t .count → kept-row (view t) k ≡ getD (view t .rows) k no-row
   kept-filed k h = getD-append-left (view t .rows) (held (view t .candidate)) no-row k (omega (arith, rows-long t))
+
+  pub filed-past : (k : ℕ) → t .count ≤ k → filed-list t k ≡ []
+  filed-past k h = ap (λ (r : Row). r .list) (getD-past (view t .rows) k no-row (omega (arith, rows-long t)))
+
+  pub places-there : (k : ℕ) → k < in-use (t .count) (t .«open») → Places t k (getD (t .entries) k no-entry)
+  places-there k h = record { stands = kept-at k h; terms-within = term-within k h; lists-within = list-within k h }
+
+  pub places-none : (k : ℕ) → in-use (t .count) (t .«open») ≤ k → Places t k no-entry
+  places-none k h = record { stands = kept-past k h; terms-within = omega arith; lists-within = omega arith }

@@ -44,12 +44,12 @@ module _ (t : Table) where
   filed-lawful k some =
       ⊎-elim
       (λ (h : k < t .count).
-        (let r : Row = row-at (t .terms) (t .types) (getD (t .entries) k no-entry) in
-        let more = all-in-use (t .count) (t .«open») in
-        let passes : T (row-passes k r) = subst T (sym (t .«rows_pass» k (omega arith))) tt in
-        subst (λ (x : Row). Lawful (x .list)) (sym (filed-row k h)) (passed-lawful (r .list) (both-right (well-formed k (r .term)) (list-passes (r .list)) passes))))
+      (let r : Row = row-at (t .terms) (t .types) (getD (t .entries) k no-entry) in
+      let more = all-in-use (t .count) (t .«open») in
+      let passes : T (row-passes k r) = subst T (sym (t .«rows_pass» k (omega arith))) tt in
+      subst (λ (x : Row). Lawful (x .list)) (sym (filed-row k h)) (passed-lawful (r .list) (both-right (well-formed k (r .term)) (list-passes (r .list)) passes))))
       (λ (h : t .count ≤ k).
-        (let long = rows-long in
-        let none : length (filed-list t k) ≡ 0 = ap (λ (x : Row). length (x .list)) (getD-past (view t .rows) k no-row (omega arith)) in
-        absurd (omega arith)))
+      (let long = rows-long in
+      let none : length (filed-list t k) ≡ 0 = ap (λ (x : Row). length (x .list)) (getD-past (view t .rows) k no-row (omega arith)) in
+      absurd (omega arith)))
       (cases-lt k (t .count))

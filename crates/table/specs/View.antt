@@ -3,7 +3,7 @@ use mathlib.Core.Path.{_≡_}
 use mathlib.Core.Bool.{Bool, true, false}
 use mathlib.Core.List.{List, [], _∷_, _++_, map}
 use Prim.Native.Nat.{ℕ, _+_, _-_, _<_}
-use lib.ListN.{length, getD, take, drop}
+use lib.ListN.{length, getD, take}
 use Rattle.std.specs.declared.option.Option.{Option}
 use Rattle.std.specs.declared.option.Option.the-variants.{Some, None}
 use Rattle.table.specs.declared.table.Table.{Table}
@@ -70,7 +70,3 @@ dismissed v = record { rows = v .rows; candidate = None }
 
 abbrev pub withdrawn : View → View
 withdrawn v = record { rows = take (length (v .rows) - 1) (v .rows); candidate = None }
-
--- what a memory holds when nodes are written over its front, as many as it has room for
-abbrev pub overlaid : {A : Type 0} → List A → List A → List A
-overlaid nodes out = take (length out) nodes ++ drop (length nodes) out

@@ -16,9 +16,18 @@ impl Table {
         ensures { λ r. ⌜ view r ≡ empty ⌝ }
     {
         Table {
-            entries: [Entry { term_start: 0, term_length: 0, list_start: 0, list_length: 0 }; 128],
+            entries: [Entry {
+                term_start: 0,
+                term_length: 0,
+                list_start: 0,
+                list_length: 0,
+            }; 128],
             terms: [TermNode { kind: 0, number: 0 }; 4096],
-            types: [TypeNode { kind: 0, left: 0, right: 0 }; 4096],
+            types: [TypeNode {
+                kind: 0,
+                left: 0,
+                right: 0,
+            }; 4096],
             count: 0,
             open: false,
         }
@@ -47,7 +56,13 @@ impl Table {
             list_start,
             list_length: list.len() as u16,
         };
-        *self = Table { entries, terms, types, count, open: true };
+        *self = Table {
+            entries,
+            terms,
+            types,
+            count,
+            open: true,
+        };
     }
 
     // Files the candidate, if there is one: it becomes the last row.

@@ -1,6 +1,7 @@
 // The table of a book: the terms and type lists of filed formulas, and of the open candidate.
-pub mod entry;
-pub mod table;
 mod change;
-mod read;
+pub mod entry;
 mod nodes;
+mod read;
+mod source;
+pub mod table;

@@ -3,8 +3,16 @@ ghost use mathlib.Core.Path.{_≡_};
 ghost use Prim.Native.Nat.{ℕ, _+_, _<_, _≤_};
 ghost use lib.ListN.{length, getD};
 ghost use Rattle.table.specs.Entries.{in-use};
-ghost use Rattle.table.specs.View.{view, is-held, term-nodes, list-nodes, AllProper};
+ghost use Rattle.table.specs.Nodes.{overlaid};
+ghost use Rattle.table.specs.Places.{Places};
+ghost use Rattle.table.specs.View.{view, is-held, kept-row, term-nodes, list-nodes, AllProper};
+ghost use Rattle.term.specs.Terms.{zero-node as no-term-node};
+ghost use Rattle.types.specs.Lists.{zero-node as no-type-node};
+use crate::entry::Entry;
+use crate::nodes::copy_part;
 use crate::table::Table;
+use term::TermNode;
+use types::TypeNode;
 
 impl Table {
     // How many formulas are filed. In no table is a row that may not be kept: a list that is not lawful, a term that is
@@ -28,7 +36,11 @@ impl Table {
     pub(crate) fn in_use(&self) -> u16
         ensures { λ r. ⌜ r ≡ in-use (now (self .entry) .count) (now (self .entry) .«open») ⌝ }
     {
-        if self.open { self.count + 1 } else { self.count }
+        if self.open {
+            self.count + 1
+        } else {
+            self.count
+        }
     }
 
     // The nodes that the terms of all rows have together.
@@ -55,5 +67,89 @@ impl Table {
         }
         let last = self.entries[(n - 1) as usize];
         last.list_start + last.list_length
+    }
+
+    // Where row `k` stands: the candidate's number is the number of rows filed. An entry of zeros where there is no row.
+    fn place(&self, k: u16) -> Entry
+        ensures { λ r. ⌜ Places (now (self .entry)) k r ⌝ }
+    {
+        if k < self.in_use() {
+            self.entries[k as usize]
+        } else {
+            Entry {
+                term_start: 0,
+                term_length: 0,
+                list_start: 0,
+                list_length: 0,
+            }
+        }
+    }
+
+    // How many nodes the term of row `k` has, 0 where there is no row.
+    pub fn term_length(&self, k: u16) -> u16
+        ensures { λ r. ⌜ r ≡ length (kept-row (view (now (self .entry))) k .term) ⌝ }
+    {
+        self.place(k).term_length
+    }
+
+    // How many nodes the type list of row `k` has, 0 where there is no row.
+    pub fn list_length(&self, k: u16) -> u16
+        ensures { λ r. ⌜ r ≡ length (kept-row (view (now (self .entry))) k .list) ⌝ }
+    {
+        self.place(k).list_length
+    }
+
+    // Node `i` of the term of row `k`, the zero node where there is none.
+    pub fn term_node(&self, k: u16, i: u16) -> TermNode
+        ensures { λ r. ⌜ r ≡ getD (kept-row (view (now (self .entry))) k .term) i no-term-node ⌝ }
+    {
+        let entry = self.place(k);
+        if i < entry.term_length {
+            self.terms[(entry.term_start + i) as usize]
+        } else {
+            TermNode { kind: 0, number: 0 }
+        }
+    }
+
+    // Node `i` of the type list of row `k`, the zero node where there is none.
+    pub fn list_node(&self, k: u16, i: u16) -> TypeNode
+        ensures { λ r. ⌜ r ≡ getD (kept-row (view (now (self .entry))) k .list) i no-type-node ⌝ }
+    {
+        let entry = self.place(k);
+        if i < entry.list_length {
+            self.types[(entry.list_start + i) as usize]
+        } else {
+            TypeNode {
+                kind: 0,
+                left: 0,
+                right: 0,
+            }
+        }
+    }
+
+    // Copies the term of row `k` to the front of `out`, as much of it as there is room for.
+    pub fn copy_term(&self, k: u16, out: &mut [TermNode])
+        ensures { λ _. ⌜ now (out .exit) ≡ overlaid (kept-row (view (now (self .entry))) k .term) (now (out .entry)) ⌝ }
+    {
+        let entry = self.place(k);
+        copy_part(
+            &self.terms,
+            entry.term_start as usize,
+            entry.term_length as usize,
+            out,
+        );
+    }
+
+    // Copies the type list of row `k` to the front of `out`, as much of it as there is room for.
+    pub fn copy_list(&self, k: u16, out: &mut [TypeNode])
+        ensures { λ _. ⌜ now (out .exit) ≡ overlaid (kept-row (view (now (self .entry))) k .list) (now (out .entry)) ⌝ }
+    {
+        let entry = self.place(k);
+        copy_part(
+            &self.types,
+            entry.list_start as usize,
+            entry.list_length as usize,
+            out,
+        );
     }
 }
