@@ -22,7 +22,7 @@ use Rattle.table.specs.Entries.{no-entry, part, row-at, in-use, end-of, InOrde
 use Rattle.table.specs.View.{view, candidate-if, is-held, term-nodes, list-nodes, with-candidate, filed, withdrawn}
 use Rattle.table.specs.Filed.{rows-long}
 use Rattle.table.proofs.Ends.{part-before, part-written, ends-rise, entry-within, fewer-in-order, order-set, end-added, rows-alike}
-use Rattle.table.proofs.Tests.{proper-row}
+use Rattle.table.proofs.Passing.{proper-row}
 use Rattle.table.proofs.Views.{held-if, kept-is, term-nodes-end, list-nodes-end}
 
 -- what a table owes for n rows

@@ -1,5 +1,5 @@
 pub mod Terms
-pub mod Tests
+pub mod Passing
 pub mod Ends
 pub mod Views
 pub mod Changes

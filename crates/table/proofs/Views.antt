@@ -14,7 +14,7 @@ use Rattle.table.specs.View.{view, candidate-if, held, is-held, kept, kept-row
 use Rattle.table.specs.Places.{Places}
 use Rattle.table.specs.Filed.{filed-list, rows-long}
 use Rattle.table.proofs.Ends.{part-length, entry-within, total-ends}
-use Rattle.table.proofs.Tests.{row-proper}
+use Rattle.table.proofs.Passing.{row-proper}
 
 rows-and-candidate : (f : Entry → Row) (es : List Entry) (n : ℕ) (b : Bool) → in-use n b ≤ length es → map f (take n es) ++ held (candidate-if b (f (getD es n no-entry))) ≡ map f (take (in-use n b) es)
 rows-and-candidate f es n false h = append-nil (map f (take n es))

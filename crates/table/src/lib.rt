@@ -3,5 +3,8 @@ mod change;
 pub mod entry;
 mod nodes;
 mod read;
-mod source;
+pub mod source;
 pub mod table;
+
+#[cfg(test)]
+mod tests;

@@ -66,10 +66,10 @@ kept-grows E xs K L t kept alike closed b lawful m n h =
     let new : KeptRow E x (L (length xs)) = record { lawful = lawful; closed = expansions-closed xs 0 t (kept-closed E xs K kept) closed; principal = principal-of-expansions E xs K kept t (meaning (L (length xs))) b .0 m } in
     ⊎-elim
     (λ (old : n < length xs).
-    subst (λ (y : Term). KeptRow E y (L n)) (sym (getD-append-left xs (x ∷ []) (reference n) n old)) (subst (KeptRow E (row xs n)) (alike n old) (kept n old)))
+        subst (λ (y : Term). KeptRow E y (L n)) (sym (getD-append-left xs (x ∷ []) (reference n) n old)) (subst (KeptRow E (row xs n)) (alike n old) (kept n old)))
     (λ (past : length xs ≤ n).
-    let e : length xs ≡ n = omega (arith, length-append xs (x ∷ [])) in
-    subst (λ (y : Term). KeptRow E y (L n)) (sym (getD-push xs x (reference n) n e)) (subst (λ (k : ℕ). KeptRow E x (L k)) e new))
+        let e : length xs ≡ n = omega (arith, length-append xs (x ∷ [])) in
+        subst (λ (y : Term). KeptRow E y (L n)) (sym (getD-push xs x (reference n) n e)) (subst (λ (k : ℕ). KeptRow E x (L k)) e new))
     (cases-lt n (length xs))
 
 pub kept-shrinks : Kept-shrinks
