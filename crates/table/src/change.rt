@@ -12,6 +12,7 @@ use term::TermNode;
 use types::TypeNode;
 
 impl Table {
+    // A table without rows.
     pub fn new() -> Table
         ensures { λ r. ⌜ view r ≡ empty ⌝ }
     {
@@ -79,9 +80,9 @@ impl Table {
     pub fn dismiss(&mut self)
         ensures { λ _. ⌜ view (now (self .exit)) ≡ dismissed (view (now (self .entry))) ⌝ }
     {
-        let mut next = *self;
-        next.open = false;
-        *self = next;
+        let mut kept = *self;
+        kept.open = false;
+        *self = kept;
     }
 
     // Drops the last row, if there is one.

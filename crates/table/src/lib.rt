@@ -2,9 +2,9 @@
 mod change;
 pub mod entry;
 mod nodes;
+mod places;
 mod read;
 pub mod source;
 pub mod table;
-
 #[cfg(test)]
 mod tests;

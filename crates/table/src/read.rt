@@ -1,14 +1,11 @@
 // What a table answers.
 ghost use mathlib.Core.Path.{_≡_};
-ghost use Prim.Native.Nat.{ℕ, _+_, _<_, _≤_};
+ghost use Prim.Native.Nat.{_≤_};
 ghost use lib.ListN.{length, getD};
-ghost use Rattle.table.specs.Entries.{in-use};
 ghost use Rattle.table.specs.Nodes.{overlaid};
-ghost use Rattle.table.specs.Places.{Places};
-ghost use Rattle.table.specs.View.{view, is-held, kept-row, term-nodes, list-nodes, AllProper};
+ghost use Rattle.table.specs.View.{view, is-held, kept-row, AllProper};
 ghost use Rattle.term.specs.Terms.{zero-node as no-term-node};
 ghost use Rattle.types.specs.Lists.{zero-node as no-type-node};
-use crate::entry::Entry;
 use crate::nodes::copy_part;
 use crate::table::Table;
 use term::TermNode;
@@ -30,59 +27,6 @@ impl Table {
         ensures { λ r. ⌜ r ≡ is-held (view (now (self .entry)) .candidate) ⌝ }
     {
         self.open
-    }
-
-    // How many rows there are with the candidate.
-    pub(crate) fn in_use(&self) -> u16
-        ensures { λ r. ⌜ r ≡ in-use (now (self .entry) .count) (now (self .entry) .«open») ⌝ }
-    {
-        if self.open {
-            self.count + 1
-        } else {
-            self.count
-        }
-    }
-
-    // The nodes that the terms of all rows have together.
-    pub fn used_terms(&self) -> u16
-        ensures nodes { λ r. ⌜ r ≡ term-nodes (view (now (self .entry))) ⌝ }
-        ensures within { λ r. ⌜ r ≤ 4096 ⌝ }
-    {
-        let n = self.in_use();
-        if n == 0 {
-            return 0;
-        }
-        let last = self.entries[(n - 1) as usize];
-        last.term_start + last.term_length
-    }
-
-    // The nodes that the type lists of all rows have together.
-    pub fn used_types(&self) -> u16
-        ensures nodes { λ r. ⌜ r ≡ list-nodes (view (now (self .entry))) ⌝ }
-        ensures within { λ r. ⌜ r ≤ 4096 ⌝ }
-    {
-        let n = self.in_use();
-        if n == 0 {
-            return 0;
-        }
-        let last = self.entries[(n - 1) as usize];
-        last.list_start + last.list_length
-    }
-
-    // Where row `k` stands: the candidate's number is the number of rows filed. An entry of zeros where there is no row.
-    fn place(&self, k: u16) -> Entry
-        ensures { λ r. ⌜ Places (now (self .entry)) k r ⌝ }
-    {
-        if k < self.in_use() {
-            self.entries[k as usize]
-        } else {
-            Entry {
-                term_start: 0,
-                term_length: 0,
-                list_start: 0,
-                list_length: 0,
-            }
-        }
     }
 
     // How many nodes the term of row `k` has, 0 where there is no row.

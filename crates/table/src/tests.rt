@@ -13,9 +13,17 @@ const IDENTITY: [TermNode; 2] = [
     TermNode { kind: 0, number: 0 },
 ];
 
-const VARIABLE: TypeNode = TypeNode { kind: 0, left: 0, right: 0 };
+const VARIABLE: TypeNode = TypeNode {
+    kind: 0,
+    left: 0,
+    right: 0,
+};
 
-const ARROW: TypeNode = TypeNode { kind: 2, left: 0, right: 0 };
+const ARROW: TypeNode = TypeNode {
+    kind: 2,
+    left: 0,
+    right: 0,
+};
 
 // A table whose only row is a candidate.
 fn with_identity() -> Table {
