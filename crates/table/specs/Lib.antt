@@ -1,0 +1,7 @@
+pub mod Nodes
+pub mod Rows
+pub mod WellFormed
+pub mod Entries
+pub mod View
+pub mod Places
+pub mod Filed
