@@ -1,56 +1,60 @@
-// Reads lines of text from standard input, and says of each whether it is a formula and how many nodes its term has, or
-// which refusal it gets and at which place.
+// Reads lines of text from standard input, and prints the most general type of each formula, or which refusal a line gets
+// and at which place.
+mod fault;
 mod lines;
+mod reply;
 
-ghost use Rattle.paycheck.specs.Replies.{Replies};
-use catalogue::builtin::Builtin;
-use catalogue::builtin::BuiltinCatalogue;
-use formula::reader::read;
+use fault::LineFault;
 use lines::next_line;
-use refusal::Layer;
 use refusal::Refusal;
+use reply::reply as type_of;
 use std::io;
 use std::io::Read;
+use std::io::Write;
 use term::TermNode;
+use types::TypeNode;
 
-// The most bytes of input that are read, and of a line that is taken for a formula.
+// The most bytes of input that are read.
 const MOST_BYTES: u64 = 65536;
 
-const LONGEST_TEXT: usize = 4096;
+// Room for the numbers that the largest formula needs.
+const NUMBERS: usize = 40960;
 
-// The reply to a line: how many nodes its term has, or why it is refused.
-fn reply(text: &[u8], memory: &mut [TermNode]) -> Result<usize, Refusal>
-    ensures { λ r. ⌜ Replies (now (text .entry)) (now (memory .entry)) (now (memory .exit)) r ⌝ }
-{
-    if text.len() > LONGEST_TEXT {
-        return Err(Refusal::new(12, Layer::Book, 0));
-    }
-    match read(&Builtin, 0, text, memory) {
-        Ok(count) => Ok(count),
-        Err(fault) => Err(fault.refusal()),
-    }
-}
-
-fn say(rt: &LibcRuntime, reply: Result<usize, Refusal>) -> io::Result<()> {
+// Prints a type, or why there is none.
+fn say(rt: &LibcRuntime, reply: Result<usize, LineFault>, out: &[u8]) -> io::Result<()> {
     match reply {
-        Ok(count) => println!(rt, "{count}"),
-        Err(
-            Refusal {
+        Ok(length) => {
+            let mut to = rt.stdout();
+            to.write_all(out.get(0..length).unwrap_or(out))?;
+            to.write_all(b"\n")
+        }
+        Err(LineFault::TooLong) => println!(rt, "too long"),
+        Err(fault) => {
+            let Refusal {
                 number,
                 layer: _,
                 place,
-            },
-        ) => println!(rt, "refused {number} at {place}"),
+            } = fault.refusal();
+            println!(rt, "refused {number} at {place}")
+        }
     }
 }
 
 fn main(rt: LibcRuntime) -> io::Result<()> {
     let mut input = Vec::new(rt.alloc());
     let _ = rt.stdin().take(MOST_BYTES).read_to_end(&mut input)?;
-    let mut memory = [TermNode { kind: 0, number: 0 }; 1024];
+    let mut terms = vec![in rt.alloc(); TermNode { kind: 0, number: 0 }; 1024]?;
+    let mut types = vec![in rt.alloc(); TypeNode {
+        kind: 0,
+        left: 0,
+        right: 0
+    }; 4096]?;
+    let mut numbers = vec![in rt.alloc(); 0u32; NUMBERS]?;
+    let mut out = vec![in rt.alloc(); 0u8; 4096]?;
     let mut at = 0;
     'lines: while let Some(line) = next_line(&input, at) {
-        say(&rt, reply(line.text, &mut memory))?;
+        let reply = type_of(line.text, &mut terms, &mut types, &mut numbers, &mut out);
+        say(&rt, reply, &out)?;
         at = line.next;
     }
     Ok(())

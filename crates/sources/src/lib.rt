@@ -40,6 +40,10 @@ pub impl Source for Nothing as NothingSource {
     }
 
     fn node(&self, k: u16, i: u16) -> TypeNode {
-        TypeNode { kind: 0, left: 0, right: 0 }
+        TypeNode {
+            kind: 0,
+            left: 0,
+            right: 0,
+        }
     }
 }
