@@ -10,13 +10,11 @@ use Rattle.refusal.specs.declared.Layer.the-variants as layer
 use Rattle.types.specs.Types.{Ty}
 use Rattle.types.specs.Lists.{Lawful}
 use Rattle.types.specs.declared.TypeNode.{TypeNode}
-use Rattle.term.specs.Terms.{Term, prefix}
 use Rattle.term.specs.declared.TermNode.{TermNode}
 use Rattle.instance.specs.Once.{Once}
 use Rattle.copy.specs.Instances.{Lists}
-use Rattle.infer.specs.Typing.{Typing}
 use Rattle.check.specs.Steps.{Steps}
-use Rattle.check.specs.Checking.{types, Sized, Each-lawful, Placed, FirstFails, NoTyping, Checked, Refuses, wrong-length, unlawful, no-step}
+use Rattle.check.specs.Checking.{types, Placed, FirstFails, NoTyping, Checked, Refuses, wrong-length, unlawful, no-step}
 use Rattle.check.proofs.Typings.{steps-are-typings}
 
 -- the steps of a failing node are missing in each typing

@@ -1,24 +1,23 @@
 -- The steps of a term's nodes are its typings.
-use mathlib.Core.Path.{_≡_, refl, sym, ap, ap₂, subst, _∙_}
+use mathlib.Core.Path.{_≡_, refl, sym, ap, subst, _∙_}
 use mathlib.Core.List.{List, [], _∷_, _++_, map}
-use mathlib.Core.Logic.{inl, inr, ⊎-elim, _≢_}
-use Prim.Native.Nat.{ℕ, zero, suc, _+_, _-_, _<_, _≤_}
+use mathlib.Core.Logic.{⊎-elim, _≢_}
+use Prim.Native.Nat.{ℕ, zero, suc, _+_, _<_, _≤_}
 use native.Mathlib.Omega.{arith}
 use lib.ListN.{length, getD, length-append}
 use Rattle.std.proofs.shelf.Lists.{append-nil}
 use Rattle.std.proofs.shelf.Tests.{cases-eq, cases-lt}
-use Rattle.std.specs.declared.option.Option.{Option}
-use Rattle.std.specs.declared.option.Option.the-variants.{Some, None}
+use Rattle.std.specs.declared.option.Option.the-variants.{Some}
 use Rattle.types.specs.Types.{Ty, base, arrow}
 use Rattle.term.specs.Terms.{Term, variable, abstraction, application, primitive, reference, prefix, zero-node}
 use Rattle.term.specs.declared.TermNode.{TermNode}
-use Rattle.copy.specs.Instances.{Lists, OfList}
-use Rattle.infer.specs.Typing.{Typing, size}
+use Rattle.copy.specs.Instances.{Lists}
+use Rattle.infer.specs.Typing.{Typing}
 use Rattle.instance.proofs.Places.{left-of}
-use Rattle.check.specs.Prefixes.{end, binder}
-use Rattle.check.specs.Steps.{VariableStep, AbstractionStep, ApplicationStep, StepOf, Step, Steps, Steps-are-typings}
+use Rattle.check.specs.Prefixes.{end}
+use Rattle.check.specs.Steps.{StepOf, Step, Steps-are-typings}
 use Rattle.check.proofs.Spans.{some-one, none-some}
-use Rattle.check.proofs.Standing.{nth, some-nodes, Here, At, Scope, here, at-inside, end-term, scope-more, Parts, parts-of}
+use Rattle.check.proofs.Standing.{nth, some-nodes, At, Scope, here, at-inside, end-term, scope-more, parts-of}
 
 -- the types of the binders at bs: those from which their abstractions have arrows
 abbrev context : (ℕ → Ty) → List ℕ → List Ty

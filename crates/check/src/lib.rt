@@ -1,5 +1,4 @@
 // The check of a typing derivation: every node of a term against the types that a list of types gives the nodes.
-ghost use Prim.Native.Nat.{ℕ};
 ghost use lib.ListN.{length};
 ghost use Rattle.std.specs.Orderings.{Decides};
 ghost use Rattle.std.specs.Results.{Cases};

@@ -1,4 +1,4 @@
-use Prim.Native.Nat.{ℕ, _<_, _≤_}
+use Prim.Native.Nat.{_≤_}
 use mathlib.Core.Path.{_≡_}
 use Rattle.check.specs.Prefixes.{binder}
 use Rattle.check.proofs.ends.find_binder.Given as given

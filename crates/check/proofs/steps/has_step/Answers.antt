@@ -1,6 +1,4 @@
-use Prim.Native.Nat.{_<_}
 use native.Mathlib.Omega.{arith}
-use lib.ListN.{length}
 use Rattle.check.proofs.Spans.{binder-inside}
 use Rattle.check.proofs.steps.has_step.Needs as need
 
