@@ -70,8 +70,9 @@ impl Table {
     pub fn file(&mut self)
         ensures { λ _. ⌜ view (now (self .exit)) ≡ filed (view (now (self .entry))) ⌝ }
     {
+        let rows = self.in_use();
         let mut next = *self;
-        next.count = self.in_use();
+        next.count = rows;
         next.open = false;
         *self = next;
     }
