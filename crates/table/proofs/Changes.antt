@@ -2,16 +2,16 @@
 use mathlib.Core.Path.{_≡_, refl, sym, ap, ap₂, subst, _∙_}
 use mathlib.Core.Logic.{⊎-elim, _≢_}
 use mathlib.Core.Bool.{Bool, true, false}
-use mathlib.Core.List.{List, [], _∷_, _++_, map}
+use mathlib.Core.List.{List, map}
 use Prim.Native.Nat.{ℕ, suc, _+_, _-_, _<_, _≤_}
 use native.Mathlib.Omega.{arith}
 use lib.ListN.{length, getD, take, set, length-set}
 use lib.Seq.{paste}
-use Rattle.std.proofs.shelf.Lists.{length-map, length-take-le, getD-set-same, getD-set-other, take-map, take-take}
+use Rattle.std.proofs.shelf.Lists.{getD-set-same, getD-set-other, take-map, take-take}
 use Rattle.std.proofs.shelf.Tests.{cases-eq}
 use Rattle.std.proofs.shelf.Edits.{length-paste}
 use Rattle.std.specs.declared.option.Option.{Option}
-use Rattle.std.specs.declared.option.Option.the-variants.{Some, None}
+use Rattle.std.specs.declared.option.Option.the-variants.{None}
 use Rattle.term.specs.declared.TermNode.{TermNode}
 use Rattle.types.specs.declared.TypeNode.{TypeNode}
 use Rattle.table.specs.declared.entry.Entry.{Entry}

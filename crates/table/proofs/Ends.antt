@@ -1,18 +1,16 @@
 -- Entries one behind the other, and the rows that they stand for.
-use mathlib.Core.Path.{_≡_, refl, sym, ap, ap₂, subst, _∙_}
+use mathlib.Core.Path.{_≡_, refl, sym, ap, subst, _∙_}
 use mathlib.Core.Logic.{⊎-elim, _≢_}
-use mathlib.Core.Bool.{Bool, true, false}
 use mathlib.Core.List.{List, [], _∷_, _++_, map}
 use Prim.Native.Nat.{ℕ, zero, suc, _+_, _-_, _<_, _≤_}
-use native.Mathlib.Numerals.{add-one}
 use native.Mathlib.Omega.{arith}
-use lib.ListN.{length, getD, take, drop, set, length-set}
+use lib.ListN.{length, getD, take, drop, set}
 use lib.Seq.{paste}
-use Rattle.std.proofs.shelf.Lists.{append-nil, append-assoc, length-take-le, length-drop, length-map, drop-take, take-take, take-append-le, drop-at, take-at, take-all, getD-take, getD-drop, getD-map, getD-set-same, getD-set-other, same-lists, map-more, take-more}
+use Rattle.std.proofs.shelf.Lists.{append-assoc, length-take-le, length-drop, length-map, drop-take, take-take, take-append-le, drop-at, take-at, take-all, getD-take, getD-drop, getD-map, getD-set-same, getD-set-other, same-lists, map-more}
 use Rattle.std.proofs.shelf.Edits.{paste-more}
 use Rattle.std.proofs.shelf.Tests.{cases-eq}
 use Rattle.table.specs.declared.entry.Entry.{Entry}
-use Rattle.table.specs.Rows.{Row, no-row}
+use Rattle.table.specs.Rows.{Row}
 use Rattle.table.specs.Entries.{no-entry, part, end-of, InOrder}
 use Rattle.table.specs.View.{total}
 

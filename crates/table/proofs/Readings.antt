@@ -1,11 +1,11 @@
 -- Rows read at their places.
-use mathlib.Core.Path.{_≡_, refl, sym, ap, ap₂, _∙_}
-use mathlib.Core.List.{List, [], _∷_, _++_}
+use mathlib.Core.Path.{_≡_, sym, ap, ap₂, _∙_}
+use mathlib.Core.List.{List, _++_}
 use Prim.Native.Nat.{ℕ, _+_, _<_, _≤_}
 use native.Mathlib.Omega.{arith}
-use lib.ListN.{length, getD, take, drop}
+use lib.ListN.{length, getD, drop}
 use lib.Seq.{paste}
-use Rattle.std.proofs.shelf.Lists.{length-drop, length-take-le, take-all, take-take, drop-all, getD-past}
+use Rattle.std.proofs.shelf.Lists.{take-all, take-take, drop-all, getD-past}
 use Rattle.term.specs.Terms.{zero-node as no-term-node}
 use Rattle.term.specs.declared.TermNode.{TermNode}
 use Rattle.types.specs.Lists.{zero-node as no-type-node}

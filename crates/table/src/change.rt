@@ -1,7 +1,7 @@
 // What changes a table.
 ghost use mathlib.Core.Path.{_≡_};
 ghost use mathlib.Core.Bool.{false};
-ghost use Prim.Native.Nat.{ℕ, _+_, _<_, _≤_};
+ghost use Prim.Native.Nat.{_+_, _<_, _≤_};
 ghost use lib.ListN.{length};
 ghost use Rattle.table.specs.Rows.{row, Proper};
 ghost use Rattle.table.specs.View.{view, empty, is-held, term-nodes, list-nodes, with-candidate, filed, dismissed, withdrawn};
@@ -70,8 +70,9 @@ impl Table {
     pub fn file(&mut self)
         ensures { λ _. ⌜ view (now (self .exit)) ≡ filed (view (now (self .entry))) ⌝ }
     {
+        let rows = self.in_use();
         let mut next = *self;
-        next.count = self.in_use();
+        next.count = rows;
         next.open = false;
         *self = next;
     }

@@ -4,6 +4,12 @@ use crate::table::Table;
 use copy::Source;
 use types::TypeNode;
 
+const NO_NODE: TypeNode = TypeNode {
+    kind: 0,
+    left: 0,
+    right: 0,
+};
+
 // The candidate's list is not among them.
 pub impl Source for Table as FiledLists {
     ghost list = { λ t k. filed-list t k };
@@ -19,14 +25,9 @@ pub impl Source for Table as FiledLists {
     }
 
     fn node(&self, k: u16, i: u16) -> TypeNode {
-        if k < self.count {
-            self.list_node(k, i)
-        } else {
-            TypeNode {
-                kind: 0,
-                left: 0,
-                right: 0,
-            }
+        if k >= self.count {
+            return NO_NODE;
         }
+        self.list_node(k, i)
     }
 }

@@ -1,6 +1,6 @@
 // The table itself.
 ghost use mathlib.Core.Path.{_≡_};
-ghost use Prim.Native.Nat.{ℕ, _+_, _<_, _≤_};
+ghost use Prim.Native.Nat.{_≤_};
 ghost use lib.ListN.{length};
 ghost use Rattle.table.specs.Entries.{in-use, term-start, term-long, list-start, list-long, end-of, InOrder, RowsPass};
 use crate::entry::Entry;

@@ -5,7 +5,7 @@ use lib.ListN.{length}
 use Rattle.term.specs.Terms.{abstraction, variable, prefix}
 use Rattle.types.specs.Lists.{node}
 use Rattle.types.proofs.Tested.{passed-lawful}
-use mathlib.Core.List.{List, [], _∷_}
+use mathlib.Core.List.{[], _∷_}
 use Rattle.table.specs.Rows.{row, Proper}
 use Rattle.table.specs.View.{View, view, empty, is-held, term-nodes, list-nodes}
 use Rattle.table.proofs.tests.with_identity.Needs as need

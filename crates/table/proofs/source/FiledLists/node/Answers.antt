@@ -7,8 +7,8 @@ use Rattle.table.specs.Rows.{Row}
 use Rattle.table.proofs.Views.{kept-filed, filed-past}
 use Rattle.table.proofs.source.FiledLists.node.Needs as need
 
-pub returns-then-k-self : need.returns-then-k-self
-returns-then-k-self c = c .list-node .ensures ∙ ap (λ (r : Row). getD (r .list) (c .args .i) zero-node) (kept-filed (c .args .self .now) (c .args .k) (c .if-k-self .taken))
+pub returns : need.returns
+returns c = c .list-node .ensures ∙ ap (λ (r : Row). getD (r .list) (c .args .i) zero-node) (kept-filed (c .args .self .now) (c .args .k) (c .if-k-self .left))
 
-pub returns-else-k-self : need.returns-else-k-self
-returns-else-k-self c = sym (ap (λ (l : List TypeNode). getD l (c .args .i) zero-node) (filed-past (c .args .self .now) (c .args .k) (c .if-k-self .left)))
+pub returns-then-k-self : need.returns-then-k-self
+returns-then-k-self c = sym (ap (λ (l : List TypeNode). getD l (c .args .i) zero-node) (filed-past (c .args .self .now) (c .args .k) (c .if-k-self .taken)))
