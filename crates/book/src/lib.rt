@@ -1,4 +1,6 @@
 // The book of formulas: submitted, filed, dismissed, withdrawn, shown, derived and checked.
+#![tactic(auto)]
+
 pub mod book;
 pub mod carrying;
 mod changing;

@@ -1,4 +1,6 @@
 // Trials of the book: each prints its name, what a submit left in the memories, and the line of its outcome.
+#![tactic(auto)]
+
 mod empty;
 mod formulas;
 mod limits;

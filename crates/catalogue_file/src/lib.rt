@@ -1,4 +1,6 @@
 // Catalogue files: their check, and catalogues that borrow the bytes of a file.
+#![tactic(auto)]
+
 pub mod answers;
 pub mod check;
 pub mod fault;

@@ -1,4 +1,6 @@
 // Copies of lists of type nodes at the end of a type graph: each copy is an instance of its own.
+#![tactic(auto)]
+
 ghost use Rattle.std.specs.Prelude.{◌≡◌, ℕ, ◌+◌, ◌<◌, ◌≤◌, List, length, Decides, slice_index_or};
 ghost use Rattle.types.specs.Lists.{Lawful, zero_node};
 ghost use Rattle.types.specs.declared.TypeNode.{TypeNode as Record};

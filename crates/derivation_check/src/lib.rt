@@ -1,4 +1,6 @@
 // The check of a typing derivation: every node of a term against the types that a list of types gives the nodes.
+#![tactic(auto)]
+
 ghost use Rattle.std.specs.Prelude.{length, Decides, MatchResult};
 ghost use Rattle.types.specs.Lists.{Lawful};
 ghost use Rattle.instance.specs.Once.{Once};

@@ -1,4 +1,6 @@
 // Trials of derivations: those that the book makes are passed by its check, and others are refused.
+#![tactic(auto)]
+
 mod changes;
 mod lists;
 

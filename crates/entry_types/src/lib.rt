@@ -1,4 +1,6 @@
 // The types of a catalogue's entries, as text.
+#![tactic(auto)]
+
 ghost use Rattle.std.specs.Prelude.{◌≡◌, ◌≤◌, length, take, MatchOption};
 ghost use Rattle.catalogue.specs.Entries.{list_of};
 ghost use Rattle.entry_types.specs.Types.{Typed};

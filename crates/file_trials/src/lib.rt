@@ -1,4 +1,6 @@
 // Trials of catalogue files: files that are cut, changed or at a limit, and the built-in table as a file.
+#![tactic(auto)]
+
 #[cfg(test)]
 mod damaged;
 #[cfg(test)]

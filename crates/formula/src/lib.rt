@@ -1,4 +1,6 @@
 // The reader of formulas: a text to a term in prefix order, or the first question that it answers with no.
+#![tactic(auto)]
+
 mod expected;
 pub mod fault;
 mod memory;

@@ -1,4 +1,6 @@
 // Type graphs in a lent memory of type nodes: classes of nodes that have the same type, and their unification.
+#![tactic(auto)]
+
 ghost use Rattle.std.specs.Prelude.{◌≡◌, ℕ, ◌<◌, ◌≤◌, length, slice_index_or};
 ghost use Rattle.graph.specs.Graph.{view, graph, Solves, Sound, alive, Kept, Always, Still};
 ghost use Rattle.graph.specs.Unifying.{Merged, Unified};

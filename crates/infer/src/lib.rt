@@ -1,4 +1,6 @@
 // The types of a term: a pass over its nodes in prefix order builds a type graph, whose solutions are the typings.
+#![tactic(auto)]
+
 ghost use Rattle.std.specs.Prelude.{◌≡◌, ◌+◌, ◌-◌, ◌<◌, ◌≤◌, length, take, drop};
 ghost use Rattle.graph.specs.Graph.{graph, Sound};
 ghost use Rattle.copy.specs.Told.{Told};

@@ -1,3 +1,5 @@
 // Examples of inference, run on small terms.
+#![tactic(auto)]
+
 #[cfg(test)]
 mod tests;

@@ -1,4 +1,6 @@
 // Whether one type is an instance of another, decided on lists of type nodes.
+#![tactic(auto)]
+
 ghost use Rattle.std.specs.Prelude.{◌≡◌, ℕ, ◌+◌, ◌<◌, ◌≤◌, true, length, take, Decides, slice_index};
 ghost use Rattle.types.specs.Types.{Instance};
 ghost use Rattle.types.specs.Lists.{Lawful, type_at, meaning};

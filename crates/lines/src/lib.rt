@@ -1,4 +1,6 @@
 // The line that a program prints for a formula that it was given.
+#![tactic(auto)]
+
 ghost use Rattle.std.specs.Prelude.{◌+◌, ◌<◌, ◌≤◌, length, decimal};
 ghost use Rattle.types.specs.Lists.{Lawful, meaning};
 ghost use Rattle.printing.specs.Text.{text};

@@ -1,4 +1,6 @@
 // Brings lists of the greatest length to their normal lists: types whose trees have up to 2^4095 leaves.
+#![tactic(auto)]
+
 ghost use Rattle.std.specs.Prelude.{◌≡◌, true};
 
 use std::io;

@@ -1,4 +1,6 @@
 // Normal lists of types: the definitions, and the laws by which they stand for their types.
+#![tactic(auto)]
+
 ghost use Rattle.normal.specs.Laws.{NormalOnce, NormalLawful, NormalMeans, NormalBegins, NormalAgain, PlacesAreTypes, Example};
 ghost use Rattle.normal.specs.Laws.{RenamingKeepsList, MutualRenames, OneListIffMutual, OneListRenames};
 

@@ -1,5 +1,7 @@
 // Reads lines of text from standard input, and prints the most general type of each formula, or which refusal a line gets
 // and at which place.
+#![tactic(auto)]
+
 mod fault;
 mod lines;
 mod reply;

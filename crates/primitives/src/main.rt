@@ -1,4 +1,6 @@
 // Prints the built-in primitives with their types, one to a line.
+#![tactic(auto)]
+
 ghost use Rattle.std.specs.Prelude.{◌≡◌, ℕ, ◌<◌, ◌≤◌, length, take, MatchOption};
 ghost use Rattle.catalogue.specs.Entries.{list_of};
 ghost use Rattle.catalogue.specs.Table.{builtin as the_table};

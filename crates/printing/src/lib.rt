@@ -1,4 +1,6 @@
 // The printed text of a type.
+#![tactic(auto)]
+
 ghost use Rattle.std.specs.Prelude.{◌≡◌, ◌+◌, ◌-◌, ◌<◌, ◌≤◌, length, take, if◌then◌else◌, nat_eq, slice_index_or};
 ghost use Rattle.types.specs.Lists.{Lawful, type_at};
 ghost use Rattle.printing.specs.Text.{letters, unknown, base_names, text, left_text};

@@ -1,4 +1,6 @@
 // A numbered refusal: what every layer's fault comes down to for the reader of an answer.
+#![tactic(auto)]
+
 ghost use Rattle.std.specs.Prelude.{◌≡◌};
 ghost use Rattle.refusal.specs.Saying.{saying};
 

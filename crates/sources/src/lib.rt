@@ -1,4 +1,6 @@
 // Where the lists of type nodes come from that a term's primitives and references ask for.
+#![tactic(auto)]
+
 ghost use Rattle.std.specs.Prelude.{[]};
 ghost use Rattle.catalogue.specs.Entries.{list_of};
 ghost use Rattle.sources.specs.Laws.{list_lawful, none_lawful};

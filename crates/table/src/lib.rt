@@ -1,4 +1,6 @@
 // The table of a book: the terms and type lists of filed formulas, and of the open candidate.
+#![tactic(auto)]
+
 mod change;
 pub mod entry;
 mod nodes;

@@ -1,4 +1,6 @@
 // The text of a formula: bytes, their classes, and the tokens that they spell.
+#![tactic(auto)]
+
 pub mod bytes;
 pub mod classes;
 pub mod fault;

@@ -1,4 +1,6 @@
 // The laws of types, expansions and principal types, on which the promises about filed formulas rest.
+#![tactic(auto)]
+
 ghost use Rattle.theory.specs.Laws.{TypingsGiveTypes, TypedIsClosed, TypedIsWhole, TypesHaveInstances, OuterBindersIdle, LaterRowsIdle};
 ghost use Rattle.theory.specs.Laws.{ExpansionsClosed, ExpansionsWhole, ExpansionsLast};
 ghost use Rattle.theory.specs.Laws.{TypesOfRows, TypesOfExpansions, PrincipalOfExpansions, TypelessExpansions, KeptGrows, KeptShrinks};

@@ -1,4 +1,6 @@
 // Trials of tickets: a candidate left open, and tickets tried on another book.
+#![tactic(auto)]
+
 mod crossing;
 mod opening;
 mod tickets;

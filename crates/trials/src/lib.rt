@@ -1,3 +1,5 @@
 // Trials of the public calls on examples.
+#![tactic(auto)]
+
 #[cfg(test)]
 mod reading;

@@ -1,4 +1,6 @@
 // The most general type of a term, and its derivation, over memories that are passed in.
+#![tactic(auto)]
+
 ghost use Rattle.std.specs.Prelude.{◌≡◌, ℕ, length, MatchResult};
 ghost use Rattle.typer.specs.Faults.{says, derive_says};
 ghost use Rattle.typer.specs.Answers.{Typed, Refuses, OneTypeList, OneTypingList};

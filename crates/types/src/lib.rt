@@ -1,4 +1,6 @@
 // Type nodes, and the lists of them that mean a type.
+#![tactic(auto)]
+
 ghost use Rattle.std.specs.Prelude.{ℕ, ◌<◌, length, Decides};
 ghost use Rattle.types.specs.Lists.{Lawful, LawfulNode};
 

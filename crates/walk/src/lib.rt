@@ -1,4 +1,6 @@
 // The walk over a type graph to the normal list of the types that its nodes stand for.
+#![tactic(auto)]
+
 ghost use Rattle.std.specs.Prelude.{◌≡◌, ℕ, ◌+◌, ◌-◌, ◌<◌, ◌≤◌, List, [], map, length, MatchOption, ◌≢◌, slice_index, slice_index_or, slice_set};
 ghost use Rattle.types.specs.Types.{Ty};
 ghost use Rattle.graph.specs.Graph.{view, graph, Sound, alive, Kept, Always};
