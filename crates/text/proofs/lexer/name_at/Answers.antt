@@ -3,20 +3,20 @@ use Rattle.text.specs.Words.{lead}
 use Rattle.text.proofs.Scanning.{scans_name, stray_name, lead_some}
 use Rattle.text.proofs.lexer.name_at.Goals as goal
 
-pub returns-then-is-name : goal.returns-then-is-name
-returns-then-is-name c =
+pub returns-then-is_name : goal.returns-then-is_name
+returns-then-is_name c =
     let text = c.args.text.now in
     let at = c.args.at in
-    let run = c.run-end-end.ensures in
+    let run = c.run_end-end.ensures in
     record {
       less = omega (arith, run.whole, lead_some text at c.requires.0 c.requires.1);
       within = run.within;
-      scans = scans_name text at c.run-end-end.result _ run.whole refl (c.if-is-name.ensures.0 refl);
+      scans = scans_name text at c.run_end-end.result _ run.whole refl (c.if-is_name.ensures.0 refl);
     }
 
-pub returns-else-is-name : goal.returns-else-is-name
-returns-else-is-name c = (
+pub returns-else-is_name : goal.returns-else-is_name
+returns-else-is_name c = (
   refl,
-  stray_name c.args.text.now c.args.at c.run-end-end.result _ c.run-end-end.ensures.whole refl c.requires.0 c.requires.1
-      (λ i. let z = c.if-is-name.ensures.1 i in let n : ◌≡◌ {A = ℕ} 0 1 = cc in omega arith),
+  stray_name c.args.text.now c.args.at c.run_end-end.result _ c.run_end-end.ensures.whole refl c.requires.0 c.requires.1
+      (λ i. let z = c.if-is_name.ensures.1 i in let n : ◌≡◌ {A = ℕ} 0 1 = cc in omega arith),
 )

@@ -11,8 +11,8 @@ returns-in-Some c =
       scans = scans_mark c.args.text.now c.args.at _ c.requires.0 (sym c.in-Some.ensures);
     }
 
-pub reference-at-requires : goal.reference-at-requires
-reference-at-requires c = (c.requires.0, mark_hash _ (sym c.in-Mark.ensures) (sym c.in-default.ensures))
+pub reference_at-requires : goal.reference_at-requires
+reference_at-requires c = (c.requires.0, mark_hash _ (sym c.in-Mark.ensures) (sym c.in_default.ensures))
 
 pub returns-in-Other : goal.returns-in-Other
 returns-in-Other c =

@@ -14,7 +14,7 @@ numeral_next w i n d h e f = ap (λ m. 10 * m + d) e ∙ ap (λ m. 10 * numeral 
 pub loop-byte-preserved : goal.loop-byte-preserved
 loop-byte-preserved c =
     let inv = c.loop-byte.invariant in
-    let d = c.in-ok-n.ensures in
+    let d = c.in_ok-n.ensures in
     let r = digit_range (get_or c.args.word.now c.loop-byte.byte-index 0) d.0 in
     let i = c.loop-byte.byte-index in (
       below_more _ i inv.0 d.0,
