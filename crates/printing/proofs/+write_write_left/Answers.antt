@@ -14,10 +14,10 @@ renamed m m' at s t r e w = subst (λ (x : List ℕ). Wrote m m' at x r) e w
 
 pub write-returns-then-node-eq-VARIABLE : goal.write-returns-then-node-eq-VARIABLE
 write-returns-then-node-eq-VARIABLE t c =
-    let spelled = c.letters-of-spelled.result in
+    let spelled = c.letters_of-spelled.result in
     let all : spelled.count - 0 ≡ spelled.count = omega arith in
     renamed _ _ _ _ _ _
-    (ap (λ (n : ℕ). take n spelled.bytes) all ∙ c.letters-of-spelled.ensures.spelled ∙ sym (text_variable c.args.list.now c.requires.lawful c.args.place c.requires.here c.if-node-eq-VARIABLE.true))
+    (ap (λ (n : ℕ). take n spelled.bytes) all ∙ c.letters_of-spelled.ensures.spelled ∙ sym (text_variable c.args.list.now c.requires.lawful c.args.place c.requires.here c.if-node-eq-VARIABLE.true))
     c.put.ensures
 
 module _ (l : List TypeNode) (law : Lawful l) (p : ℕ) (h : p < length l) (branch : (get_or l p zero_node).kind ≡ 0 → ⊥) (branch' : (get_or l p zero_node).kind ≡ 1 → ⊥) where
@@ -27,8 +27,8 @@ module _ (l : List TypeNode) (law : Lawful l) (p : ℕ) (h : p < length l) (bran
   parts_lower : ((get_or l p zero_node).left < p) × ((get_or l p zero_node).right < p)
   parts_lower = let two = is_two in lower_at l law.each p h (omega arith)
 
-pub write-write-left-left-end-requires : goal.write-write-left-left-end-requires
-write-write-left-left-end-requires t c =
+pub write-write_left-left_end-requires : goal.write-write_left-left_end-requires
+write-write_left-left_end-requires t c =
     let l = c.args.list.now in
     let p = c.args.place in
     let two = is_two l c.requires.lawful p c.requires.here c.if-node-eq-VARIABLE.false c.if-node-eq-BASE.false in
@@ -42,7 +42,7 @@ write-put-right-requires t c =
     let p = c.args.place in
     let two = is_two l c.requires.lawful p c.requires.here c.if-node-eq-VARIABLE.false c.if-node-eq-BASE.false in
     let size = arrow_long l c.requires.lawful p c.requires.here two in
-    omega (arith, size, c.requires.room, c.write-left-left-end.ensures.stop, c.write-left-left-end.auto.out)
+    omega (arith, size, c.requires.room, c.write_left-left_end.ensures.stop, c.write_left-left_end.auto.out)
 
 pub write-write-requires : goal.write-write-requires
 write-write-requires t c =
@@ -54,7 +54,7 @@ write-write-requires t c =
       omega (arith, low.1),
       (
         c.requires.lawful,
-        (omega (arith, low.1), omega (arith, size, c.requires.room, c.write-left-left-end.ensures.stop, c.write-left-left-end.auto.out, c.put-right.ensures.stop, c.put-right.auto.out)),
+        (omega (arith, low.1), omega (arith, size, c.requires.room, c.write_left-left_end.ensures.stop, c.write_left-left_end.auto.out, c.put-right.ensures.stop, c.put-right.auto.out)),
       ),
     )
 
@@ -70,22 +70,22 @@ write-returns t c =
     (codes " -> ")
     (text (type_at l (get_or l p zero_node).right))
     (omega (arith, ap length is, c.requires.room))
-    c.write-left-left-end.ensures
+    c.write_left-left_end.ensures
     c.put-right.ensures
     c.write.ensures)
 
-pub write-left-write-inner-end-requires : goal.write-left-write-inner-end-requires
-write-left-write-inner-end-requires t c =
+pub write_left-write-inner_end-requires : goal.write_left-write-inner_end-requires
+write_left-write-inner_end-requires t c =
     let size = bracketed_long c.args.list.now c.args.place c.if-list-place-ne-ARROW.false in
     (omega arith, (c.requires.lawful, (c.requires.here, omega (arith, size, c.requires.room, c.put-inner.ensures.stop, c.put-inner.auto.out))))
 
-pub write-left-put-requires : goal.write-left-put-requires
-write-left-put-requires t c =
+pub write_left-put-requires : goal.write_left-put-requires
+write_left-put-requires t c =
     let size = bracketed_long c.args.list.now c.args.place c.if-list-place-ne-ARROW.false in
-    omega (arith, size, c.requires.room, c.put-inner.ensures.stop, c.put-inner.auto.out, c.write-inner-end.ensures.stop, c.write-inner-end.auto.out)
+    omega (arith, size, c.requires.room, c.put-inner.ensures.stop, c.put-inner.auto.out, c.write-inner_end.ensures.stop, c.write-inner_end.auto.out)
 
-pub write-left-returns : goal.write-left-returns
-write-left-returns t c =
+pub write_left-returns : goal.write_left-returns
+write_left-returns t c =
     let l = c.args.list.now in
     let p = c.args.place in
     let is = left_bracketed l p c.if-list-place-ne-ARROW.false in
@@ -96,5 +96,5 @@ write-left-returns t c =
     (codes ")")
     (omega (arith, ap length is, c.requires.room))
     c.put-inner.ensures
-    c.write-inner-end.ensures
+    c.write-inner_end.ensures
     c.put.ensures)
