@@ -41,9 +41,9 @@ fn is_variable(node: TypeNode, number: u16) -> bool
 
 // The first place of the variable that stands at place `i` of list `k`, looked for from the front.
 fn search<S: Source>(source: &S, k: u16, i: u16, number: u16) -> u16
-    requires is { IsVariable (slice_index_or (list source.now k) i zero_node) number }
+    requires is { IsVariable (slice_index_or (S.list source.now k) i zero_node) number }
     ensures low { result ≤ i }
-    ensures first { First (list source.now k) number result }
+    ensures first { First (S.list source.now k) number result }
 {
     let mut j = 0;
     while j < i {
@@ -57,7 +57,7 @@ fn search<S: Source>(source: &S, k: u16, i: u16, number: u16) -> u16
 
 // Whether the variable stands at the place `j`, below `i`.
 fn stands_at<S: Source>(source: &S, k: u16, i: u16, number: u16, j: u32) -> bool
-    ensures { Decides result (StandsBelow (list source.now k) i number j) }
+    ensures { Decides result (StandsBelow (S.list source.now k) i number j) }
 {
     j < i as u32 && is_variable(source.node(k, j as u16), number)
 }
@@ -65,11 +65,11 @@ fn stands_at<S: Source>(source: &S, k: u16, i: u16, number: u16, j: u32) -> bool
 // The first place of the variable that stands at place `i` of list `k`. `seen` has the first place of each variable
 // before `i` whose number is below its length; what else it holds does not matter.
 fn first<S: Source>(source: &S, k: u16, i: u16, number: u16, seen: &mut [u32]) -> u16
-    requires is { IsVariable (slice_index_or (list source.now k) i zero_node) number }
-    requires noted { Noted (list source.now k) i seen.old }
+    requires is { IsVariable (slice_index_or (S.list source.now k) i zero_node) number }
+    requires noted { Noted (S.list source.now k) i seen.old }
     ensures low { result ≤ i }
-    ensures first { First (list source.now k) number result }
-    ensures noted { Noted (list source.now k) (i + 1) seen.new }
+    ensures first { First (S.list source.now k) number result }
+    ensures noted { Noted (S.list source.now k) (i + 1) seen.new }
 {
     let at = number as usize;
     if at >= seen.len() {
@@ -85,11 +85,11 @@ fn first<S: Source>(source: &S, k: u16, i: u16, number: u16, seen: &mut [u32]) -
 
 // Node `i` of list `k` for a copy that stands at `by`.
 fn fresh<S: Source>(source: &S, k: u16, i: u16, by: u16, seen: &mut [u32]) -> TypeNode
-    requires within { i < length (list source.now k) }
+    requires within { i < length (S.list source.now k) }
     requires small { by + i < 65536 }
-    requires noted { Noted (list source.now k) i seen.old }
-    ensures fresh { Fresh (list source.now k) by i (view result) }
-    ensures noted { Noted (list source.now k) (i + 1) seen.new }
+    requires noted { Noted (S.list source.now k) i seen.old }
+    ensures fresh { Fresh (S.list source.now k) by i (view result) }
+    ensures noted { Noted (S.list source.now k) (i + 1) seen.new }
 {
     let node = source.node(k, i);
     let kind = node.kind;
@@ -119,7 +119,7 @@ fn fresh<S: Source>(source: &S, k: u16, i: u16, by: u16, seen: &mut [u32]) -> Ty
     }
 }
 
-// A copy of list `k` behind the `used` records; none of a list without nodes. `seen` is scratch: with room for the
+// A copy of list `k` behind the `used` records; none of a List without nodes. `seen` is scratch: with room for the
 // numbers of the list's variables the work is linear.
 pub fn copy<S: Source>(
     source: &S,
@@ -129,9 +129,9 @@ pub fn copy<S: Source>(
     used: usize,
 ) -> Option<Made>
     requires sound { Sound (graph memory.old used) }
-    requires room { used + length (list source.now k) ≤ length memory.old }
-    requires small { used + length (list source.now k) ≤ 65536 }
-    ensures { Copied (list source.now k) memory.old memory.new used result }
+    requires room { used + length (S.list source.now k) ≤ length memory.old }
+    requires small { used + length (S.list source.now k) ≤ 65536 }
+    ensures { Copied (S.list source.now k) memory.old memory.new used result }
 {
     let n = source.nodes(k);
     if n == 0 {

@@ -8,17 +8,17 @@ returns-then-at-seen g c =
     let p = c.requires in
     record { low = c.search.ensures.low; first = c.search.ensures.first; noted = noted_past _ _ _ _ p.is p.noted c.if-at-seen.true }
 
-pub returns-then-stands-at : goal.returns-then-stands-at
-returns-then-stands-at g c =
+pub returns-then-stands_at : goal.returns-then-stands_at
+returns-then-stands_at g c =
     let p = c.requires in
-    let s = c.if-stands-at.ensures.0 refl in
+    let s = c.if-stands_at.ensures.0 refl in
     let h : c.args.number < length c.args.seen.now = omega (arith, c.if-at-seen.false) in
     record { low = omega (arith, s.below); first = p.noted.each _ _ s h; noted = noted_again _ _ _ _ p.is p.noted s h }
 
 pub returns : goal.returns
 returns g c =
     let p = c.requires in
-    let s = c.if-stands-at.ensures in
+    let s = c.if-stands_at.ensures in
     let h : c.args.number < length c.args.seen.now = omega (arith, c.if-at-seen.false) in
     let f = first_new _ _ _ _ p.is p.noted (λ x. false≢true (s.1 x)) h in
     record { low = omega arith; first = f; noted = noted_new _ _ _ _ p.is p.noted f h }
