@@ -15,9 +15,9 @@ use types::{MOST_NODES, TypeNode};
 
 // Copies the list of entry k to the front of a memory, and answers its length.
 fn copy_list<C: Catalogue>(catalogue: &C, k: u16, memory: &mut [TypeNode]) -> usize
-    requires { length (list_of (entries catalogue.now) k) ≤ length memory.old }
-    ensures long { result ≡ length (list_of (entries catalogue.now) k) }
-    ensures copied { take result memory.new ≡ list_of (entries catalogue.now) k }
+    requires { length (list_of (C.entries catalogue.now) k) ≤ length memory.old }
+    ensures long { result ≡ length (list_of (C.entries catalogue.now) k) }
+    ensures copied { take result memory.new ≡ list_of (C.entries catalogue.now) k }
 {
     let count = catalogue.nodes(k);
     for i in 0..count {
@@ -28,7 +28,7 @@ fn copy_list<C: Catalogue>(catalogue: &C, k: u16, memory: &mut [TypeNode]) -> us
 
 // Writes the text of the type of entry k, and answers its length; nothing where it is too long or there is no entry k.
 fn type_of<C: Catalogue>(catalogue: &C, k: u16, out: &mut [u8]) -> Option<usize>
-    ensures { MatchOption result (out.new ≡ out.old) (λ n. Typed (entries catalogue.now) k out.old out.new n) }
+    ensures { MatchOption result (out.new ≡ out.old) (λ n. Typed (C.entries catalogue.now) k out.old out.new n) }
 {
     let mut memory = [TypeNode {
         kind: 0,

@@ -8,16 +8,16 @@ put-requires t c = omega (arith, one_long c.args.number c.if-number-lt10.true, c
 pub returns-then-number-lt10 : goal.returns-then-number-lt10
 returns-then-number-lt10 t c = one_wrote c.args.number _ _ _ _ c.if-number-lt10.true c.put.ensures
 
-pub put-number-last-requires : goal.put-number-last-requires
-put-number-last-requires t c =
+pub put_number-last-requires : goal.put_number-last-requires
+put_number-last-requires t c =
     let long = more_long c.args.number c.if-number-lt10.false (omega (arith, c.ranges.number)) in
     (omega (arith, c.if-number-lt10.false), omega (arith, long, c.requires))
 
 pub put-requires-2 : goal.put-requires-2
 put-requires-2 t c =
     let long = more_long c.args.number c.if-number-lt10.false (omega (arith, c.ranges.number)) in
-    omega (arith, long, c.requires, c.put-number-last.ensures.stop, c.put-number-last.auto.out)
+    omega (arith, long, c.requires, c.put_number-last.ensures.stop, c.put_number-last.auto.out)
 
 pub returns : goal.returns
 returns t c =
-    more_wrote c.args.number c.if-number-lt10.false (omega (arith, c.ranges.number)) _ _ _ _ _ _ c.requires c.put-number-last.ensures c.put-2.ensures
+    more_wrote c.args.number c.if-number-lt10.false (omega (arith, c.ranges.number)) _ _ _ _ _ _ c.requires c.put_number-last.ensures c.put-2.ensures

@@ -5,22 +5,22 @@ use Rattle.lines.specs.Lines.{line_end, if_short}
 use Rattle.lines.proofs.Pieces.{filed_number, short_text, filed_fits, five_pieces}
 use Rattle.lines.proofs.write_filed.Goals as goal
 
-pub put-number-digits-requires : goal.put-number-digits-requires
-put-number-digits-requires c = let few = filed_number c.args.number c.requires.filed in omega (arith, c.put-sign.ensures.stop)
+pub put_number-digits-requires : goal.put_number-digits-requires
+put_number-digits-requires c = let few = filed_number c.args.number c.requires.filed in omega (arith, c.put-sign.ensures.stop)
 
 pub put-colon-requires : goal.put-colon-requires
-put-colon-requires c = let few = filed_number c.args.number c.requires.filed in omega (arith, c.put-sign.ensures.stop, c.put-number-digits.ensures.stop)
+put-colon-requires c = let few = filed_number c.args.number c.requires.filed in omega (arith, c.put-sign.ensures.stop, c.put_number-digits.ensures.stop)
 
-pub put-type-end-requires : goal.put-type-end-requires
-put-type-end-requires c =
+pub put_type-end-requires : goal.put_type-end-requires
+put_type-end-requires c =
     let few = filed_number c.args.number c.requires.filed in
-    record { lawful = c.requires.lawful; room = omega (arith, c.put-sign.ensures.stop, c.put-number-digits.ensures.stop, c.put-colon.ensures.stop) }
+    record { lawful = c.requires.lawful; room = omega (arith, c.put-sign.ensures.stop, c.put_number-digits.ensures.stop, c.put-colon.ensures.stop) }
 
 pub put-requires : goal.put-requires
 put-requires c =
     let few = filed_number c.args.number c.requires.filed in
     let short = short_text (text (meaning c.args.list.now)) in
-    omega (arith, c.put-sign.ensures.stop, c.put-number-digits.ensures.stop, c.put-colon.ensures.stop, c.put-type-end.ensures.stop)
+    omega (arith, c.put-sign.ensures.stop, c.put_number-digits.ensures.stop, c.put-colon.ensures.stop, c.put_type-end.ensures.stop)
 
 pub returns : goal.returns
 returns c =
@@ -33,7 +33,7 @@ returns c =
     (filed_fits c.args.number c.args.list.now c.requires.filed)
     c.requires.room
     c.put-sign.ensures
-    c.put-number-digits.ensures
+    c.put_number-digits.ensures
     c.put-colon.ensures
-    c.put-type-end.ensures
+    c.put_type-end.ensures
     c.put.ensures

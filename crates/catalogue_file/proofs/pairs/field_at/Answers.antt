@@ -7,4 +7,4 @@ pub returns : goal.returns
 unfolding field
 returns c =
     let long : c.args.at + c.args.layout.width - c.args.at ≡ c.args.layout.width = omega arith in
-    record { value = c.read-number.ensures.value ∙ ap (λ n. number (take n (drop c.args.at c.args.bytes.now))) long; small = c.read-number.ensures.small }
+    record { value = c.read_number.ensures.value ∙ ap (λ n. number (take n (drop c.args.at c.args.bytes.now))) long; small = c.read_number.ensures.small }

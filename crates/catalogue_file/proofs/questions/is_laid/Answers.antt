@@ -5,4 +5,4 @@ use Rattle.catalogue_file.proofs.questions.is_laid.Goals as goal
 pub loop-k-preserved : goal.loop-k-preserved
 loop-k-preserved c =
     let inv = c.loop-k.invariant in
-    (due_behind _ _ c.loop-k.k _ _ c.offset-of-offset.ensures.value c.size-of.ensures.value, below_more _ _ inv.1 (omega (arith, c.offset-of-offset.ensures.value, inv.0)))
+    (due_behind _ _ c.loop-k.k _ _ c.offset_of-offset.ensures.value c.size_of.ensures.value, below_more _ _ inv.1 (omega (arith, c.offset_of-offset.ensures.value, inv.0)))

@@ -9,8 +9,8 @@ use Rattle.catalogue_file.proofs.file.FileCatalogue.part.Goals as goal
 pub returns-then-k-size : goal.returns-then-k-size
 returns-then-k-size c = sym (get_or_past (contents c.args.self.now) c.args.k no_entry (omega (arith, c.size.ensures.value)))
 
-pub part-of-requires : goal.part-of-requires
-part-of-requires c =
+pub part_of-requires : goal.part_of-requires
+part_of-requires c =
     let framed = framed_known c.args.self.now.sound in
     record {
       fit = fit_known c.args.self.now.fit;
@@ -23,4 +23,4 @@ pub returns : goal.returns
 returns c =
     let l = c.args.self.now.layout in
     let bs = c.args.self.now.bytes.now in
-    ap entry_in c.part-of.ensures ∙ sym (entry_at l bs c.args.k (omega (arith, c.size.ensures.value, entries_long l bs)))
+    ap entry_in c.part_of.ensures ∙ sym (entry_at l bs c.args.k (omega (arith, c.size.ensures.value, entries_long l bs)))
