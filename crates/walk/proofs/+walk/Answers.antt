@@ -11,36 +11,36 @@ use Rattle.walk.proofs.Steps.{zeros_set, opening, opened, room_opened, walked_kn
 use Rattle.walk.proofs.+walk.Goals as goal
 
 pub bounds-marks-i : goal.bounds-marks-i
-bounds-marks-i t c = omega (arith, (root_within c.args.graph.now c.args.at c.root-of-i.result c.requires.flat c.requires.inside c.root-of-i.ensures).0, c.requires.room.marks)
+bounds-marks-i t c = omega (arith, (root_within c.args.graph.now c.args.at c.root_of-i.result c.requires.flat c.requires.inside c.root_of-i.ensures).0, c.requires.room.marks)
 
 pub returns-then-mark-eq1 : goal.returns-then-mark-eq1
 returns-then-mark-eq1 t c =
-    looped (map view c.args.graph.now) c.requires.flat c.args.marks.now c.args.at c.root-of-i.result (omega (arith, length-map c.args.graph.now view)) c.root-of-i.ensures c.if-mark-eq1.true
+    looped (map view c.args.graph.now) c.requires.flat c.args.marks.now c.args.at c.root_of-i.result (omega (arith, length-map c.args.graph.now view)) c.root_of-i.ensures c.if-mark-eq1.true
 
-pub overflow-cast-result : goal.overflow-cast-result
-overflow-cast-result t c =
-    let m = get_or c.args.marks.now c.root-of-i.result 0 in
+pub overflow_cast-result : goal.overflow_cast-result
+overflow_cast-result t c =
+    let m = get_or c.args.marks.now c.root_of-i.result 0 in
     let e : m ≡ (m - 2) + 2 = omega arith in
     let s = c.requires.state.1 in
-    let w = (root_within c.args.graph.now c.args.at c.root-of-i.result c.requires.flat c.requires.inside c.root-of-i.ensures).0 in
-    omega (arith, (s.marked.read c.root-of-i.result (m - 2) (omega (arith, length-map c.args.graph.now view)) e).0, s.long, c.requires.room.rest, c.requires.room.few)
+    let w = (root_within c.args.graph.now c.args.at c.root_of-i.result c.requires.flat c.requires.inside c.root_of-i.ensures).0 in
+    omega (arith, (s.marked.read c.root_of-i.result (m - 2) (omega (arith, length-map c.args.graph.now view)) e).0, s.long, c.requires.room.rest, c.requires.room.few)
 
 pub returns-then-mark-ge2 : goal.returns-then-mark-ge2
 returns-then-mark-ge2 t c =
-    walked_known (map view c.args.graph.now) c.requires.flat _ c.args.at c.root-of-i.result _ (omega (arith, length-map c.args.graph.now view)) c.root-of-i.ensures (omega arith)
+    walked_known (map view c.args.graph.now) c.requires.flat _ c.args.at c.root_of-i.result _ (omega (arith, length-map c.args.graph.now view)) c.root_of-i.ensures (omega arith)
 
 pub bounds-marks-i-2 : goal.bounds-marks-i-2
-bounds-marks-i-2 t c = omega (arith, (root_within c.args.graph.now c.args.at c.root-of-i.result c.requires.flat c.requires.inside c.root-of-i.ensures).0, c.requires.room.marks)
+bounds-marks-i-2 t c = omega (arith, (root_within c.args.graph.now c.args.at c.root_of-i.result c.requires.flat c.requires.inside c.root_of-i.ensures).0, c.requires.room.marks)
 
 pub bounds-graph-i : goal.bounds-graph-i
-bounds-graph-i t c = (root_within c.args.graph.now c.args.at c.root-of-i.result c.requires.flat c.requires.inside c.root-of-i.ensures).0
+bounds-graph-i t c = (root_within c.args.graph.now c.args.at c.root_of-i.result c.requires.flat c.requires.inside c.root_of-i.ensures).0
 
 pub close-requires : goal.close-requires
 close-requires t c =
     let ts = c.args.graph.now in
     let ms = c.args.marks.now in
-    let i = c.root-of-i.result in
-    let w = root_within ts c.args.at i c.requires.flat c.requires.inside c.root-of-i.ensures in
+    let i = c.root_of-i.result in
+    let w = root_within ts c.args.at i c.requires.flat c.requires.inside c.root_of-i.ensures in
     let h : i < length ms = omega (arith, w.0, c.requires.room.marks) in
     let new : get_or ms i 0 ≡ 0 = omega arith in
     let s = c.requires.state.1 in
@@ -60,8 +60,8 @@ pub close-requires-in-Base : goal.close-requires-in-Base
 close-requires-in-Base t c =
     let ts = c.args.graph.now in
     let ms = c.args.marks.now in
-    let i = c.root-of-i.result in
-    let w = root_within ts c.args.at i c.requires.flat c.requires.inside c.root-of-i.ensures in
+    let i = c.root_of-i.result in
+    let w = root_within ts c.args.at i c.requires.flat c.requires.inside c.root_of-i.ensures in
     let h : i < length ms = omega (arith, w.0, c.requires.room.marks) in
     let new : get_or ms i 0 ≡ 0 = omega arith in
     let s = c.requires.state.1 in
@@ -81,8 +81,8 @@ pub walk-requires : goal.walk-requires
 walk-requires t c =
     let ts = c.args.graph.now in
     let ms = c.args.marks.now in
-    let i = c.root-of-i.result in
-    let w = root_within ts c.args.at i c.requires.flat c.requires.inside c.root-of-i.ensures in
+    let i = c.root_of-i.result in
+    let w = root_within ts c.args.at i c.requires.flat c.requires.inside c.root_of-i.ensures in
     let h : i < length ms = omega (arith, w.0, c.requires.room.marks) in
     let new : get_or ms i 0 ≡ 0 = omega arith in
     let s = c.requires.state.1 in
@@ -92,27 +92,27 @@ walk-requires t c =
     let z = zeros_set ms i 1 (omega arith) h new in
     (omega (arith, c.decreases), (omega (arith, in_graph.0, length-map ts view), (c.requires.flat, (ro.0, (c.requires.state.0, opened (map view ts) _ i h new c.requires.state.0 s)))))
 
-pub returns-in-err-left : goal.returns-in-err-left
-returns-in-err-left t c =
+pub returns-in_err-left-in-Branch : goal.returns-in_err-left-in-Branch
+returns-in_err-left-in-Branch t c =
     let ts = c.args.graph.now in
     let ms = c.args.marks.now in
-    let i = c.root-of-i.result in
-    let w = root_within ts c.args.at i c.requires.flat c.requires.inside c.root-of-i.ensures in
+    let i = c.root_of-i.result in
+    let w = root_within ts c.args.at i c.requires.flat c.requires.inside c.root_of-i.ensures in
     let h : i < length ms = omega (arith, w.0, c.requires.room.marks) in
     let new : get_or ms i 0 ≡ 0 = omega arith in
     let s = c.requires.state.1 in
     let ro = room_opened (map view ts) _ i h new (length ts) c.requires.room in
     let f = nodes_at ts i ∙ sym c.in-Branch.ensures in
     let in_graph = inside_at (map view ts) i _ c.requires.flat.sound (omega (arith, w.0, length-map ts view)) f in
-    let p = err_from_is_err_and c.from-residual.result c.from-residual.ensures.1 in
-    rw p.1 (λ above. c.in-err-left.ensures (above_part (map view ts) c.requires.flat ms c.args.at i c.in-Branch.l (omega (arith, length-map ts view)) c.root-of-i.ensures (smaller_left (map view ts) c.requires.flat i _ _ _ (omega (arith, w.0, length-map ts view)) f) above))
+    let p = err_from_is_err_and c.from_residual.result c.from_residual.ensures.1 in
+    rw p.1 (λ above. c.in_err-left-in-Branch.ensures (above_part (map view ts) c.requires.flat ms c.args.at i c.in-Branch.l (omega (arith, length-map ts view)) c.root_of-i.ensures (smaller_left (map view ts) c.requires.flat i _ _ _ (omega (arith, w.0, length-map ts view)) f) above))
 
 pub walk-requires-in-Branch : goal.walk-requires-in-Branch
 walk-requires-in-Branch t c =
     let ts = c.args.graph.now in
     let ms = c.args.marks.now in
-    let i = c.root-of-i.result in
-    let w = root_within ts c.args.at i c.requires.flat c.requires.inside c.root-of-i.ensures in
+    let i = c.root_of-i.result in
+    let w = root_within ts c.args.at i c.requires.flat c.requires.inside c.root_of-i.ensures in
     let h : i < length ms = omega (arith, w.0, c.requires.room.marks) in
     let new : get_or ms i 0 ≡ 0 = omega arith in
     let s = c.requires.state.1 in
@@ -120,40 +120,40 @@ walk-requires-in-Branch t c =
     let f = nodes_at ts i ∙ sym c.in-Branch.ensures in
     let in_graph = inside_at (map view ts) i _ c.requires.flat.sound (omega (arith, w.0, length-map ts view)) f in
     let z = zeros_set ms i 1 (omega arith) h new in
-    let l = c.in-ok-left.ensures in
+    let l = c.in_ok-left-in-Branch.ensures in
     let x = l.exact c.requires.state.0 (opened (map view ts) _ i h new c.requires.state.0 s) in
     let k = c.walk.auto in
     (omega (arith, c.decreases, l.fewer), (omega (arith, in_graph.1, length-map ts view), (c.requires.flat, (room_walked (map view ts) (length ts) _ _ _ _ ro.0 l k.marks k.origins k.heads k.nexts, (_, x.state)))))
 
-pub returns-in-err-right : goal.returns-in-err-right
-returns-in-err-right t c =
+pub returns-in_err-right-in-Branch : goal.returns-in_err-right-in-Branch
+returns-in_err-right-in-Branch t c =
     let ts = c.args.graph.now in
     let ms = c.args.marks.now in
-    let i = c.root-of-i.result in
-    let w = root_within ts c.args.at i c.requires.flat c.requires.inside c.root-of-i.ensures in
+    let i = c.root_of-i.result in
+    let w = root_within ts c.args.at i c.requires.flat c.requires.inside c.root_of-i.ensures in
     let h : i < length ms = omega (arith, w.0, c.requires.room.marks) in
     let new : get_or ms i 0 ≡ 0 = omega arith in
     let s = c.requires.state.1 in
     let ro = room_opened (map view ts) _ i h new (length ts) c.requires.room in
     let f = nodes_at ts i ∙ sym c.in-Branch.ensures in
     let in_graph = inside_at (map view ts) i _ c.requires.flat.sound (omega (arith, w.0, length-map ts view)) f in
-    let p = err_from_is_err_and c.from-residual-in-err-right.result c.from-residual-in-err-right.ensures.1 in
-    rw p.1 (λ above. c.in-err-right.ensures (above_grown (map view ts) c.requires.flat _ _ _ c.in-ok-left.ensures.grown (above_part (map view ts) c.requires.flat ms c.args.at i c.in-Branch.r (omega (arith, length-map ts view)) c.root-of-i.ensures (smaller_right (map view ts) c.requires.flat i _ _ _ (omega (arith, w.0, length-map ts view)) f) above)))
+    let p = err_from_is_err_and c.from_residual-in_err-right-in-Branch.result c.from_residual-in_err-right-in-Branch.ensures.1 in
+    rw p.1 (λ above. c.in_err-right-in-Branch.ensures (above_grown (map view ts) c.requires.flat _ _ _ c.in_ok-left-in-Branch.ensures.grown (above_part (map view ts) c.requires.flat ms c.args.at i c.in-Branch.r (omega (arith, length-map ts view)) c.root_of-i.ensures (smaller_right (map view ts) c.requires.flat i _ _ _ (omega (arith, w.0, length-map ts view)) f) above)))
 
 pub close-requires-in-Branch : goal.close-requires-in-Branch
 close-requires-in-Branch t c =
     let ts = c.args.graph.now in
     let ms = c.args.marks.now in
-    let i = c.root-of-i.result in
-    let w = root_within ts c.args.at i c.requires.flat c.requires.inside c.root-of-i.ensures in
+    let i = c.root_of-i.result in
+    let w = root_within ts c.args.at i c.requires.flat c.requires.inside c.root_of-i.ensures in
     let h : i < length ms = omega (arith, w.0, c.requires.room.marks) in
     let new : get_or ms i 0 ≡ 0 = omega arith in
     let s = c.requires.state.1 in
     let ro = room_opened (map view ts) _ i h new (length ts) c.requires.room in
     let f = nodes_at ts i ∙ sym c.in-Branch.ensures in
     let in_graph = inside_at (map view ts) i _ c.requires.flat.sound (omega (arith, w.0, length-map ts view)) f in
-    let l = c.in-ok-left.ensures in
-    let r = c.in-ok-right.ensures in
+    let l = c.in_ok-left-in-Branch.ensures in
+    let r = c.in_ok-right-in-Branch.ensures in
     let x = l.exact c.requires.state.0 (opened (map view ts) _ i h new c.requires.state.0 s) in
     let y = r.exact _ x.state in
     let k = c.walk.auto in
@@ -170,46 +170,46 @@ close-requires-in-Branch t c =
     }
 
 pub unreachable-requires : goal.unreachable-requires
-unreachable-requires t c = absurd (not_link (map view c.args.graph.now) c.root-of-i.result _ (root_within c.args.graph.now c.args.at c.root-of-i.result c.requires.flat c.requires.inside c.root-of-i.ensures).1 (nodes_at c.args.graph.now c.root-of-i.result ∙ sym c.in-Link.ensures))
+unreachable-requires t c = absurd (not_link (map view c.args.graph.now) c.root_of-i.result _ (root_within c.args.graph.now c.args.at c.root_of-i.result c.requires.flat c.requires.inside c.root_of-i.ensures).1 (nodes_at c.args.graph.now c.root_of-i.result ∙ sym c.in-Link.ensures))
 
 pub returns-in-Var : goal.returns-in-Var
 returns-in-Var t c =
     let ts = c.args.graph.now in
     let ms = c.args.marks.now in
-    let i = c.root-of-i.result in
-    let w = root_within ts c.args.at i c.requires.flat c.requires.inside c.root-of-i.ensures in
+    let i = c.root_of-i.result in
+    let w = root_within ts c.args.at i c.requires.flat c.requires.inside c.root_of-i.ensures in
     let h : i < length ms = omega (arith, w.0, c.requires.room.marks) in
     let new : get_or ms i 0 ≡ 0 = omega arith in
     let s = c.requires.state.1 in
     let ro = room_opened (map view ts) _ i h new (length ts) c.requires.room in
     let f = nodes_at ts i ∙ sym c.in-Var.ensures in
-    walked_leaf (map view ts) c.requires.flat _ _ c.args.at i _ (variable i) _ c.root-of-i.ensures h new c.close.ensures (reads_variable f) (λ ps. (refl, tt, refl))
+    walked_leaf (map view ts) c.requires.flat _ _ c.args.at i _ (variable i) _ c.root_of-i.ensures h new c.close.ensures (reads_variable f) (λ ps. (refl, tt, refl))
 
 pub returns-in-Base : goal.returns-in-Base
 returns-in-Base t c =
     let ts = c.args.graph.now in
     let ms = c.args.marks.now in
-    let i = c.root-of-i.result in
-    let w = root_within ts c.args.at i c.requires.flat c.requires.inside c.root-of-i.ensures in
+    let i = c.root_of-i.result in
+    let w = root_within ts c.args.at i c.requires.flat c.requires.inside c.root_of-i.ensures in
     let h : i < length ms = omega (arith, w.0, c.requires.room.marks) in
     let new : get_or ms i 0 ≡ 0 = omega arith in
     let s = c.requires.state.1 in
     let ro = room_opened (map view ts) _ i h new (length ts) c.requires.room in
     let f = nodes_at ts i ∙ sym c.in-Base.ensures in
-    walked_leaf (map view ts) c.requires.flat _ _ c.args.at i _ (base c.in-Base.c) _ c.root-of-i.ensures h new c.close-in-Base.ensures (reads_base f) (λ ps. (refl, tt, refl))
+    walked_leaf (map view ts) c.requires.flat _ _ c.args.at i _ (base c.in-Base.c) _ c.root_of-i.ensures h new c.close-in-Base.ensures (reads_base f) (λ ps. (refl, tt, refl))
 
-pub returns-in-ok-right : goal.returns-in-ok-right
-returns-in-ok-right t c =
+pub returns-in_ok-right-in-Branch : goal.returns-in_ok-right-in-Branch
+returns-in_ok-right-in-Branch t c =
     let ts = c.args.graph.now in
     let ms = c.args.marks.now in
-    let i = c.root-of-i.result in
-    let w = root_within ts c.args.at i c.requires.flat c.requires.inside c.root-of-i.ensures in
+    let i = c.root_of-i.result in
+    let w = root_within ts c.args.at i c.requires.flat c.requires.inside c.root_of-i.ensures in
     let h : i < length ms = omega (arith, w.0, c.requires.room.marks) in
     let new : get_or ms i 0 ≡ 0 = omega arith in
     let s = c.requires.state.1 in
     let ro = room_opened (map view ts) _ i h new (length ts) c.requires.room in
     let f = nodes_at ts i ∙ sym c.in-Branch.ensures in
     let in_graph = inside_at (map view ts) i _ c.requires.flat.sound (omega (arith, w.0, length-map ts view)) f in
-    let l = c.in-ok-left.ensures in
-    let r = c.in-ok-right.ensures in
-    walked_branch (map view ts) c.requires.flat _ _ _ _ c.args.at i _ _ _ _ _ _ c.root-of-i.ensures h new (c.walk-in-Branch.auto.marks ∙ c.walk.auto.marks ∙ length-set ms i 1) f (subst Kind f (c.requires.flat.kinds i)) l r c.close-in-Branch.ensures
+    let l = c.in_ok-left-in-Branch.ensures in
+    let r = c.in_ok-right-in-Branch.ensures in
+    walked_branch (map view ts) c.requires.flat _ _ _ _ c.args.at i _ _ _ _ _ _ c.root_of-i.ensures h new (c.walk-in-Branch.auto.marks ∙ c.walk.auto.marks ∙ length-set ms i 1) f (subst Kind f (c.requires.flat.kinds i)) l r c.close-in-Branch.ensures

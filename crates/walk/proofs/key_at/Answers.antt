@@ -9,13 +9,13 @@ use Rattle.walk.proofs.key_at.Goals as goal
 pub bounds-graph-i : goal.bounds-graph-i
 bounds-graph-i c = omega (arith, length-map c.args.graph.now view, c.requires.origin.inside)
 
-pub place-of-requires : goal.place-of-requires
-place-of-requires c =
+pub place_of-requires : goal.place_of-requires
+place_of-requires c =
     let f = (found_parts c.args.graph.now c.args.marks.now c.requires.marked.0 c.requires.flat c.requires.marked.2 c.requires.long c.requires.marked.1 c.requires.few c.args.i _ _ _ c.requires.origin c.in-Branch.ensures).0 in
     record { inside = f.inside; known = f.known; done = f.done; few = f.few }
 
-pub place-of-requires-in-Branch : goal.place-of-requires-in-Branch
-place-of-requires-in-Branch c =
+pub place_of-requires-in-Branch : goal.place_of-requires-in-Branch
+place_of-requires-in-Branch c =
     let f = (found_parts c.args.graph.now c.args.marks.now c.requires.marked.0 c.requires.flat c.requires.marked.2 c.requires.long c.requires.marked.1 c.requires.few c.args.i _ _ _ c.requires.origin c.in-Branch.ensures).1 in
     record { inside = f.inside; known = f.known; done = f.done; few = f.few }
 
@@ -30,5 +30,5 @@ returns-in-Base c ps m = key_base _ _ ps c.requires.flat m c.args.i _ c.requires
 
 pub returns-in-Branch : goal.returns-in-Branch
 returns-in-Branch c ps m =
-    ap₂ (node c.in-Branch.kind) c.place-of.ensures c.place-of-in-Branch.ensures
+    ap₂ (node c.in-Branch.kind) c.place_of.ensures c.place_of-in-Branch.ensures
     ∙ key_branch _ _ ps c.requires.flat m c.args.i _ c.requires.origin.inside c.requires.origin.mark _ _ _ (nodes_at c.args.graph.now c.args.i ∙ sym c.in-Branch.ensures)

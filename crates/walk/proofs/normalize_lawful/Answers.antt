@@ -3,8 +3,8 @@ use Rattle.std.proofs.lemmas.List.{length-append, length-take-le}
 use Rattle.walk.proofs.Copied.{graph_sound, graph_solved, normalized, only_root}
 use Rattle.walk.proofs.normalize_lawful.Goals as goal
 
-pub list-types-requires : goal.list-types-requires
-list-types-requires c =
+pub list_types-requires : goal.list_types-requires
+list_types-requires c =
     let l = c.args.list.now in
     let k = c.copy.auto in
     let law = c.requires.lawful in

@@ -4,8 +4,8 @@ use Rattle.graph.proofs.Writes.{kept_none}
 use Rattle.walk.proofs.Flattening.{looked_alive, straight_node, next_below, straight_next, skipped_kept, skipped_simple, skipped_straight}
 use Rattle.walk.proofs.straighten.Goals as goal
 
-pub slice-copy-out·there : goal.slice-copy-out·there
-slice-copy-out·there c = let p = c.requires in omega (arith, next_below c.args.memory.now c.args.used c.args.i p.fits p.within p.sound p.below c.in-Link.next (sym c.in-Link.ensures))
+pub slice_copy_out-there : goal.slice_copy_out-there
+slice_copy_out-there c = let p = c.requires in omega (arith, next_below c.args.memory.now c.args.used c.args.i p.fits p.within p.sound p.below c.in-Link.next (sym c.in-Link.ensures))
 
 pub returns-in-Link-look : goal.returns-in-Link-look
 returns-in-Link-look c =
@@ -16,20 +16,20 @@ returns-in-Link-look c =
       simple = skipped_simple c.args.memory.now c.args.used c.args.i p.fits p.within p.sound p.below c.in-Link.next (sym c.in-Link.ensures) c.in-Link-look.far (sym c.in-Link-look.ensures);
     }
 
-pub returns-in-default-look : goal.returns-in-default-look
-returns-in-default-look c =
+pub returns-in_default-look : goal.returns-in_default-look
+returns-in_default-look c =
     let p = c.requires in
     record {
       kept = kept_none _ p.sound;
-      straight = straight_next c.args.memory.now c.args.used c.args.i p.fits p.within p.sound p.below c.in-Link.next (sym c.in-Link.ensures) (looked_alive _ _ c.look-in-Link.ensures c.in-default-look.not-Link);
+      straight = straight_next c.args.memory.now c.args.used c.args.i p.fits p.within p.sound p.below c.in-Link.next (sym c.in-Link.ensures) (looked_alive _ _ c.look-in-Link.ensures c.in_default-look.not-Link);
       simple = λ s. s;
     }
 
-pub returns-in-default : goal.returns-in-default
-returns-in-default c =
+pub returns-in_default : goal.returns-in_default
+returns-in_default c =
     let p = c.requires in
     record {
       kept = kept_none _ p.sound;
-      straight = straight_node c.args.memory.now c.args.used c.args.i p.fits p.within p.sound p.below (looked_alive _ _ c.look.ensures c.in-default.not-Link);
+      straight = straight_node c.args.memory.now c.args.used c.args.i p.fits p.within p.sound p.below (looked_alive _ _ c.look.ensures c.in_default.not-Link);
       simple = λ s. s;
     }

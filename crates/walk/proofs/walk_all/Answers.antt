@@ -7,8 +7,8 @@ use Rattle.walk.proofs.Roots.{room_nodes, room_records}
 use Rattle.walk.proofs.Whole.{state_none, room_none, shut_none, gathered, wanted_below}
 use Rattle.walk.proofs.walk_all.Goals as goal
 
-pub walk-roots-requires : goal.walk-roots-requires
-walk-roots-requires c =
+pub walk_roots-requires : goal.walk_roots-requires
+walk_roots-requires c =
     let ts = c.args.graph.now in
     record {
       inside = c.requires.inside;
@@ -18,16 +18,16 @@ walk-roots-requires c =
       shut = shut_none _ c.clear.ensures;
     }
 
-pub walk-rest-requires : goal.walk-rest-requires
-walk-rest-requires c =
-    let r = c.in-ok-wanted.ensures in
+pub walk_rest-requires : goal.walk_rest-requires
+walk_rest-requires c =
+    let r = c.in_ok-wanted.ensures in
     record { flat = c.requires.flat; room = room_records c.args.graph.now _ r.room; state = (_, r.sofar.state); shut = r.shut }
 
 pub columns-requires : goal.columns-requires
 columns-requires c =
     let ts = c.args.graph.now in
-    let r = c.in-ok-wanted.ensures in
-    let f = c.in-ok-walk-rest.ensures in
+    let r = c.in_ok-wanted.ensures in
+    let f = c.in_ok-walk_rest.ensures in
     let s = f.sofar _ r.sofar.state in
     let n = length-map ts view in
     let inside : (k : ℕ) → k < length c.args.roots.now → get_or c.args.roots.now k 0 < length (map view ts) = λ k h. (let i = c.requires.inside k h in omega arith) in
@@ -46,8 +46,8 @@ columns-requires c =
 pub returns : goal.returns
 returns c =
     let ts = c.args.graph.now in
-    let r = c.in-ok-wanted.ensures in
-    let f = c.in-ok-walk-rest.ensures in
+    let r = c.in_ok-wanted.ensures in
+    let f = c.in_ok-walk_rest.ensures in
     let s = f.sofar _ r.sofar.state in
     let n = length-map ts view in
     let inside : (k : ℕ) → k < length c.args.roots.now → get_or c.args.roots.now k 0 < length (map view ts) = λ k h. (let i = c.requires.inside k h in omega arith) in
