@@ -9,24 +9,24 @@ use Rattle.infer.proofs.+pass.Goals as goal
 pub returns-then-at-terms : goal.returns-then-at-terms
 returns-then-at-terms g t c = clash_past _ _ _ _ _ c.args.memory.now c.args.used c.if-at-terms.true
 
-pub place-leaf-requires : goal.place-leaf-requires
-place-leaf-requires g t c =
+pub place_leaf-requires : goal.place_leaf-requires
+place_leaf-requires g t c =
     let p = c.requires in
     let s : Starts c.args.terms.now c.args.at (Single c.in-Single.leaf) = (c.if-at-terms.false, c.in-Single.ensures) in
     let r = need_at (g.E.Source.list c.args.entries.now) (g.K.Source.list c.args.kept.now) c.args.terms.now c.args.at (Single c.in-Single.leaf) s in
     record { sound = p.sound; fits = omega (arith, p.room); room = omega (arith, p.room); small = omega (arith, p.small); deep = omega (arith, p.inner); scoped = p.scoped }
 
-pub returns-in-ok-made : goal.returns-in-ok-made
-returns-in-ok-made g t c =
+pub returns-in_ok-made-in-Single : goal.returns-in_ok-made-in-Single
+returns-in_ok-made-in-Single g t c =
     let p = c.requires in
     let s : Starts c.args.terms.now c.args.at (Single c.in-Single.leaf) = (c.if-at-terms.false, c.in-Single.ensures) in
-    find_leaf _ _ _ _ _ _ _ _ p.sound p.room p.scoped _ s _ _ (omega (arith, p.placed)) (omega arith) c.in-ok-made.ensures
+    find_leaf _ _ _ _ _ _ _ _ p.sound p.room p.scoped _ s _ _ (omega (arith, p.placed)) (omega arith) c.in_ok-made-in-Single.ensures
 
-pub returns-in-err-made : goal.returns-in-err-made
-returns-in-err-made g t c =
+pub returns-in_err-made-in-Single : goal.returns-in_err-made-in-Single
+returns-in_err-made-in-Single g t c =
     let p = c.requires in
     let s : Starts c.args.terms.now c.args.at (Single c.in-Single.leaf) = (c.if-at-terms.false, c.in-Single.ensures) in
-    rw c.from-residual.ensures (clash_leaf _ _ _ _ _ c.args.places.now c.args.memory.now c.args.used p.sound p.room p.scoped _ s c.in-err-made.ensures)
+    rw c.from_residual.ensures (clash_leaf _ _ _ _ _ c.args.places.now c.args.memory.now c.args.used p.sound p.room p.scoped _ s c.in_err-made-in-Single.ensures)
 
 pub bounds-memory-used : goal.bounds-memory-used
 bounds-memory-used g t c =
@@ -34,8 +34,8 @@ bounds-memory-used g t c =
     let s : Starts c.args.terms.now c.args.at Abstraction = (c.if-at-terms.false, c.in-Abstraction.ensures) in
     omega (arith, p.room, need_at (g.E.Source.list c.args.entries.now) (g.K.Source.list c.args.kept.now) c.args.terms.now c.args.at Abstraction s)
 
-pub overflow-cast-used : goal.overflow-cast-used
-overflow-cast-used g t c =
+pub overflow_cast-used : goal.overflow_cast-used
+overflow_cast-used g t c =
     let p = c.requires in
     let s : Starts c.args.terms.now c.args.at Abstraction = (c.if-at-terms.false, c.in-Abstraction.ensures) in
     omega (arith, p.small, need_at (g.E.Source.list c.args.entries.now) (g.K.Source.list c.args.kept.now) c.args.terms.now c.args.at Abstraction s)
@@ -76,26 +76,26 @@ pub close-node-requires : goal.close-node-requires
 close-node-requires g t c =
     let p = c.requires in
     let s : Starts c.args.terms.now c.args.at Abstraction = (c.if-at-terms.false, c.in-Abstraction.ensures) in
-    let f = c.in-ok-body.ensures in
+    let f = c.in_ok-body-in-Abstraction.ensures in
     let r = need_at (g.E.Source.list c.args.entries.now) (g.K.Source.list c.args.kept.now) c.args.terms.now c.args.at Abstraction s in
     record { sound = f.sound; small = omega (arith, p.small, f.room); room = omega (arith, p.room, f.room, length-set c.args.memory.now c.args.used zero_node); first = omega (arith, f.longer); second = rw f.node (f.inside (c.args.at + 1) (omega arith) f.forward) }
 
-pub returns-in-ok-body : goal.returns-in-ok-body
-returns-in-ok-body g t c =
+pub returns-in_ok-body-in-Abstraction : goal.returns-in_ok-body-in-Abstraction
+returns-in_ok-body-in-Abstraction g t c =
     let p = c.requires in
     let s : Starts c.args.terms.now c.args.at Abstraction = (c.if-at-terms.false, c.in-Abstraction.ensures) in
     let deep : c.args.depth < length c.args.binders.now = omega (arith, p.inner, c.if-at-terms.false) in
     let ey = take_more_set c.args.binders.now c.args.depth c.args.used deep in
-    let f = c.in-ok-body.ensures in
-    find_abstraction _ _ _ _ _ c.args.places.now c.args.memory.now c.args.used p.sound p.room p.scoped s _ ey _ _ _ _ _ c.in-ok-body.body _ f (omega (arith, p.placed, c.if-at-terms.false)) (scope_less c.pass.new.binders c.args.binders.now c.args.depth c.args.used f.scope) c.close-node.ensures.is c.close-node.ensures.told
+    let f = c.in_ok-body-in-Abstraction.ensures in
+    find_abstraction _ _ _ _ _ c.args.places.now c.args.memory.now c.args.used p.sound p.room p.scoped s _ ey _ _ _ _ _ c.in_ok-body-in-Abstraction.body _ f (omega (arith, p.placed, c.if-at-terms.false)) (scope_less c.pass.new.binders c.args.binders.now c.args.depth c.args.used f.scope) c.close-node.ensures.is c.close-node.ensures.told
 
-pub returns-in-err-body : goal.returns-in-err-body
-returns-in-err-body g t c =
+pub returns-in_err-body-in-Abstraction : goal.returns-in_err-body-in-Abstraction
+returns-in_err-body-in-Abstraction g t c =
     let p = c.requires in
     let s : Starts c.args.terms.now c.args.at Abstraction = (c.if-at-terms.false, c.in-Abstraction.ensures) in
     let deep : c.args.depth < length c.args.binders.now = omega (arith, p.inner, c.if-at-terms.false) in
     let ey = take_more_set c.args.binders.now c.args.depth c.args.used deep in
-    rw c.from-residual-in-err-body.ensures (clash_body _ _ _ _ _ c.args.places.now c.args.memory.now c.args.used p.sound p.room p.scoped s _ ey c.in-err-body.ensures)
+    rw c.from_residual-in_err-body-in-Abstraction.ensures (clash_body _ _ _ _ _ c.args.places.now c.args.memory.now c.args.used p.sound p.room p.scoped s _ ey c.in_err-body-in-Abstraction.ensures)
 
 pub pass-requires-in-Application : goal.pass-requires-in-Application
 pass-requires-in-Application g t c κs within =
@@ -108,7 +108,7 @@ pub pass-requires-in-Application-2 : goal.pass-requires-in-Application-2
 pass-requires-in-Application-2 g t c κs within =
     let p = c.requires in
     let s : Starts c.args.terms.now c.args.at Application = (c.if-at-terms.false, c.in-Application.ensures) in
-    let f = c.in-ok-f.ensures in
+    let f = c.in_ok-f-in-Application.ensures in
     let r = need_at (g.E.Source.list c.args.entries.now) (g.K.Source.list c.args.kept.now) c.args.terms.now c.args.at Application s in (
       omega (arith, c.decreases, f.forward, f.within),
       (
@@ -139,42 +139,42 @@ pub call-requires : goal.call-requires
 call-requires g t c =
     let p = c.requires in
     let s : Starts c.args.terms.now c.args.at Application = (c.if-at-terms.false, c.in-Application.ensures) in
-    let f = c.in-ok-f.ensures in
-    let x = c.in-ok-x.ensures in
+    let f = c.in_ok-f-in-Application.ensures in
+    let x = c.in_ok-x-in-Application.ensures in
     let r = call_room _ _ _ _ _ c.args.places.now c.args.memory.now c.args.used p.sound p.room p.scoped s _ _ _ _ f _ _ _ _ x in
     record { sound = x.sound; small = omega (arith, p.small, r); room = omega (arith, p.room, r); first = function_inside _ _ _ _ _ c.args.places.now c.args.memory.now c.args.used p.sound p.room p.scoped s _ _ _ _ f _ _ _ _ x; second = argument_inside _ _ _ _ _ c.args.places.now c.args.memory.now c.args.used p.sound p.room p.scoped s _ _ _ _ f _ _ _ _ x }
 
-pub overflow-add-result-in-Application : goal.overflow-add-result-in-Application
-overflow-add-result-in-Application g t c =
+pub overflow_add-result-in-Application : goal.overflow_add-result-in-Application
+overflow_add-result-in-Application g t c =
     let p = c.requires in
     let s : Starts c.args.terms.now c.args.at Application = (c.if-at-terms.false, c.in-Application.ensures) in
-    let f = c.in-ok-f.ensures in
-    let x = c.in-ok-x.ensures in
+    let f = c.in_ok-f-in-Application.ensures in
+    let x = c.in_ok-x-in-Application.ensures in
     let r = call_room _ _ _ _ _ c.args.places.now c.args.memory.now c.args.used p.sound p.room p.scoped s _ _ _ _ f _ _ _ _ x in
     omega (arith, p.small, r)
 
-pub returns-in-ok-node : goal.returns-in-ok-node
-returns-in-ok-node g t c =
+pub returns-in_ok-node-in-Application : goal.returns-in_ok-node-in-Application
+returns-in_ok-node-in-Application g t c =
     let p = c.requires in
     let s : Starts c.args.terms.now c.args.at Application = (c.if-at-terms.false, c.in-Application.ensures) in
-    let f = c.in-ok-f.ensures in
-    let x = c.in-ok-x.ensures in
-    find_application _ _ _ _ _ c.args.places.now c.args.memory.now c.args.used p.sound p.room p.scoped s _ _ _ _ f _ _ _ _ x _ _ (omega (arith, p.placed, c.if-at-terms.false)) (omega arith) c.in-ok-node.ensures
+    let f = c.in_ok-f-in-Application.ensures in
+    let x = c.in_ok-x-in-Application.ensures in
+    find_application _ _ _ _ _ c.args.places.now c.args.memory.now c.args.used p.sound p.room p.scoped s _ _ _ _ f _ _ _ _ x _ _ (omega (arith, p.placed, c.if-at-terms.false)) (omega arith) c.in_ok-node-in-Application.ensures
 
-pub returns-in-err-node : goal.returns-in-err-node
-returns-in-err-node g t c =
+pub returns-in_err-node-in-Application : goal.returns-in_err-node-in-Application
+returns-in_err-node-in-Application g t c =
     let p = c.requires in
     let s : Starts c.args.terms.now c.args.at Application = (c.if-at-terms.false, c.in-Application.ensures) in
-    rw c.from-residual-in-err-node.ensures (clash_call _ _ _ _ _ c.args.places.now c.args.memory.now c.args.used p.sound p.room p.scoped s _ _ _ _ c.in-ok-f.ensures _ _ _ _ c.in-ok-x.ensures c.in-err-node.ensures)
+    rw c.from_residual-in_err-node-in-Application.ensures (clash_call _ _ _ _ _ c.args.places.now c.args.memory.now c.args.used p.sound p.room p.scoped s _ _ _ _ c.in_ok-f-in-Application.ensures _ _ _ _ c.in_ok-x-in-Application.ensures c.in_err-node-in-Application.ensures)
 
-pub returns-in-err-x : goal.returns-in-err-x
-returns-in-err-x g t c =
+pub returns-in_err-x-in-Application : goal.returns-in_err-x-in-Application
+returns-in_err-x-in-Application g t c =
     let p = c.requires in
     let s : Starts c.args.terms.now c.args.at Application = (c.if-at-terms.false, c.in-Application.ensures) in
-    rw c.from-residual-in-err-x.ensures (clash_argument _ _ _ _ _ c.args.places.now c.args.memory.now c.args.used p.sound p.room p.scoped s _ _ _ _ c.in-ok-f.ensures c.in-err-x.ensures)
+    rw c.from_residual-in_err-x-in-Application.ensures (clash_argument _ _ _ _ _ c.args.places.now c.args.memory.now c.args.used p.sound p.room p.scoped s _ _ _ _ c.in_ok-f-in-Application.ensures c.in_err-x-in-Application.ensures)
 
-pub returns-in-err-f : goal.returns-in-err-f
-returns-in-err-f g t c =
+pub returns-in_err-f-in-Application : goal.returns-in_err-f-in-Application
+returns-in_err-f-in-Application g t c =
     let p = c.requires in
     let s : Starts c.args.terms.now c.args.at Application = (c.if-at-terms.false, c.in-Application.ensures) in
-    rw c.from-residual-in-err-f.ensures (clash_function _ _ _ _ _ c.args.places.now c.args.memory.now c.args.used p.sound p.room p.scoped s c.in-err-f.ensures)
+    rw c.from_residual-in_err-f-in-Application.ensures (clash_function _ _ _ _ _ c.args.places.now c.args.memory.now c.args.used p.sound p.room p.scoped s c.in_err-f-in-Application.ensures)

@@ -1,7 +1,7 @@
 use Rattle.std.proofs.Common.{◌≡◌, ℕ, ◌≤◌, length, get_or, drop, refl, ap, arith, drop_of_length-le}
 use Rattle.term.specs.Terms.{zero_node}
 use Rattle.copy.specs.Instances.{Lists}
-use Rattle.infer.specs.Heads.{head_of, goal as total}
+use Rattle.infer.specs.Heads.{head_of, need as total}
 use Rattle.infer.proofs.Prefixes.{need_at}
 use Rattle.infer.proofs.needed.Goals as goal
 
@@ -11,7 +11,7 @@ loop-i-preserved g c =
     let K : Lists = g.K.Source.list c.args.kept.now in
     let inv = c.loop-i.invariant in
     let q = need_at E K c.args.terms.now c.loop-i.i (head_of (get_or c.args.terms.now c.loop-i.i zero_node)) (c.loop-i-test.true, refl) in
-    (omega (arith, c.loop-i-test.true), omega (arith, inv.1, q, c.need-of.ensures), omega (arith, inv.2))
+    (omega (arith, c.loop-i-test.true), omega (arith, inv.1, q, c.need_of.ensures), omega (arith, inv.2))
 
 pub returns : goal.returns
 returns g c =

@@ -3,8 +3,8 @@ use Rattle.infer.proofs.Leaves.{variable_placed, variable_refused, primitive_pla
 use Rattle.infer.proofs.Passing.{scope_deep, scope_at, scope_below, scope_none}
 use Rattle.infer.proofs.place_leaf.Goals as goal
 
-pub overflow-cast-result : goal.overflow-cast-result
-overflow-cast-result g c =
+pub overflow_cast-result : goal.overflow_cast-result
+overflow_cast-result g c =
     let b = scope_below c.args.binders.now c.args.depth c.args.used c.in-Variable.n c.requires.deep c.if-n-depth.true c.requires.scoped in
     omega (arith, c.requires.small)
 

@@ -1,7 +1,7 @@
 use Rattle.std.proofs.Common.{◌≡◌, ℕ, ◌+◌, ◌≤◌, length, get_or, drop, refl, ap, arith, drop_of_length-le}
 use Rattle.term.specs.Terms.{zero_node}
 use Rattle.copy.specs.Instances.{Lists}
-use Rattle.infer.specs.Heads.{head_of, goal as total}
+use Rattle.infer.specs.Heads.{head_of, need as total}
 use Rattle.infer.proofs.Prefixes.{need_at}
 use Rattle.typer.proofs.question.few_records.Goals as goal
 
