@@ -65,7 +65,7 @@ kept_below b b' b'' d w noted full (inr h) e =
     let le : d ≤ d + 1 = omega arith in
     sym (take-take d (d + 1) (map (λ x. x.now) b'') le) ∙ ap (take d) e ∙ take-take d (d + 1) (map (λ x. x.now) b') le ∙ ap (take d) (full h)
 
-pub ended_abstraction : (text : List ℕ) (es : List Entry) (filed : ℕ) (b b' b'' : List (MutBor (List ℕ))) (depth : ℕ) (out p q : List TermNode) (at from : ℕ) (h : Head) (r : Reach) → HeadRead text from h → (depth < length b → map (λ x. x.now) b' ≡ set (map (λ x. x.now) b) depth h.name.now) → (length b ≤ depth → map (λ x. x.now) b' ≡ map (λ x. x.now) b) → length b' ≡ length b → (at < length out → p ≡ set out at (node 1 0)) → length p ≡ length out → Ended expression text es filed b' b'' (depth + 1) p q (at + 1) h.end r → Ended expression text es filed b b'' depth out q at from (record { end = r.end; count = r.count + 1; unknown = r.unknown; unfiled = r.unfiled })
+pub ended_abstraction : (text : List ℕ) (es : List Entry) (filed : ℕ) (b b' b'' : List (Bor (List ℕ))) (depth : ℕ) (out p q : List TermNode) (at from : ℕ) (h : Head) (r : Reach) → HeadRead text from h → (depth < length b → map (λ x. x.now) b' ≡ set (map (λ x. x.now) b) depth h.name.now) → (length b ≤ depth → map (λ x. x.now) b' ≡ map (λ x. x.now) b) → length b' ≡ length b → (at < length out → p ≡ set out at (node 1 0)) → length p ≡ length out → Ended expression text es filed b' b'' (depth + 1) p q (at + 1) h.end r → Ended expression text es filed b b'' depth out q at from (record { end = r.end; count = r.count + 1; unknown = r.unknown; unfiled = r.unfiled })
 ended_abstraction text es filed b b' b'' depth out p q at from h r head noted full lb put lp e =
     let c = e.covered in
     let a = c.advance in

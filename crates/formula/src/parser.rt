@@ -49,7 +49,7 @@ impl<'a, C: Catalogue> Reader<'a, C> {
     // The node of a name: its binder, or else the catalogue's entry.
     fn leaf(&self, binders: &[&[u8]], depth: usize, name: &[u8]) -> Option<TermNode>
         requires { length binders.now ≤ 65536 }
-        ensures { depth ≤ length binders.now → Leaf (entries self.now.catalogue.now) (scope_of binders.now depth) name.now result }
+        ensures { depth ≤ length binders.now → Leaf (C.entries self.now.catalogue.now) (scope_of binders.now depth) name.now result }
     {
         if let Some(k) = index(binders, depth, name) {
             return Some(TermNode {
@@ -74,7 +74,7 @@ impl<'a, C: Catalogue> Reader<'a, C> {
         at: usize,
     ) -> Option<usize>
         requires { length binders.now ≤ 65536 }
-        ensures { depth ≤ length binders.now → Settled (entries self.now.catalogue.now) (scope_of binders.now depth) name.now place out.old out.new at result }
+        ensures { depth ≤ length binders.now → Settled (C.entries self.now.catalogue.now) (scope_of binders.now depth) name.now place out.old out.new at result }
     {
         match self.leaf(binders, depth, name) {
             Some(node) => {
@@ -106,7 +106,7 @@ impl<'a, C: Catalogue> Reader<'a, C> {
         at: usize,
     ) -> Result<Reach, TextFault>
         requires { Ready self.now.lexer.text.now binders.old depth at from }
-        ensures { MatchResult result (λ q. Ended anExpression self.now.lexer.text.now (entries self.now.catalogue.now) self.now.filed binders.old binders.new depth out.old out.new at from q) (λ f. BlamesExpression self.now.lexer.text.now from f) }
+        ensures { MatchResult result (λ q. Ended anExpression self.now.lexer.text.now (C.entries self.now.catalogue.now) self.now.filed binders.old binders.new depth out.old out.new at from q) (λ f. BlamesExpression self.now.lexer.text.now from f) }
     {
         match abstraction_head(&self.lexer, from)? {
             Some(head) => {
@@ -134,7 +134,7 @@ impl<'a, C: Catalogue> Reader<'a, C> {
         at: usize,
     ) -> Result<Reach, TextFault>
         requires { Ready self.now.lexer.text.now binders.old depth at from }
-        ensures { MatchResult result (λ q. Ended anApplication self.now.lexer.text.now (entries self.now.catalogue.now) self.now.filed binders.old binders.new depth out.old out.new at from q) (λ f. BlamesApplication self.now.lexer.text.now from f) }
+        ensures { MatchResult result (λ q. Ended anApplication self.now.lexer.text.now (C.entries self.now.catalogue.now) self.now.filed binders.old binders.new depth out.old out.new at from q) (λ f. BlamesApplication self.now.lexer.text.now from f) }
     {
         let mut reach = self.atom(from, binders, depth, out, at)?;
         'atoms: while follows(&self.lexer, reach.end)? {
@@ -162,7 +162,7 @@ impl<'a, C: Catalogue> Reader<'a, C> {
         at: usize,
     ) -> Result<Reach, TextFault>
         requires { Ready self.now.lexer.text.now binders.old depth at from }
-        ensures { MatchResult result (λ q. Covered anAtom self.now.lexer.text.now (entries self.now.catalogue.now) self.now.filed binders.old binders.new depth out.old out.new at from q) (λ f. BlamesApplication self.now.lexer.text.now from f × BlamesNext self.now.lexer.text.now from f) }
+        ensures { MatchResult result (λ q. Covered anAtom self.now.lexer.text.now (C.entries self.now.catalogue.now) self.now.filed binders.old binders.new depth out.old out.new at from q) (λ f. BlamesApplication self.now.lexer.text.now from f × BlamesNext self.now.lexer.text.now from f) }
     {
         match self.lexer.next(from)? {
             Some(found) => match found.token {
@@ -205,7 +205,7 @@ impl<'a, C: Catalogue> Reader<'a, C> {
     pub fn whole(&self, binders: &mut [&'a [u8]], out: &mut [TermNode]) -> Result<Reach, TextFault>
         requires few { length binders.old ≤ 65536 }
         requires short { 2 * length self.now.lexer.text.now < 2 ^ 64 }
-        ensures { MatchResult result (λ q. Parsed self.now.lexer.text.now (entries self.now.catalogue.now) self.now.filed (length binders.old) out.old out.new q) (λ f. NotParsed self.now.lexer.text.now f) }
+        ensures { MatchResult result (λ q. Parsed self.now.lexer.text.now (C.entries self.now.catalogue.now) self.now.filed (length binders.old) out.old out.new q) (λ f. NotParsed self.now.lexer.text.now f) }
     {
         self.lexer.scan()?;
         let all = self.expression(0, binders, 0, out, 0)?;

@@ -20,7 +20,7 @@ fn parse<'a, C: Catalogue>(
     text: &'a [u8],
     memory: &mut [TermNode],
 ) -> Result<Reach, TextFault>
-    ensures { MatchResult result (λ q. Parsed text.now (entries catalogue.now) filed 1024 memory.old memory.new q) (λ f. NotParsed text.now f) }
+    ensures { MatchResult result (λ q. Parsed text.now (C.entries catalogue.now) filed 1024 memory.old memory.new q) (λ f. NotParsed text.now f) }
 {
     let reader = Reader {
         lexer: Lexer::new(text),
@@ -44,7 +44,7 @@ fn draft<C: Catalogue>(
     text: &[u8],
     memory: &mut [TermNode],
 ) -> Result<usize, FormulaFault>
-    ensures { MatchResult result (λ n. Drafted (entries catalogue.now) filed text.now memory.new n) (λ f. Refuses (entries catalogue.now) filed text.now (length memory.old) (says f)) }
+    ensures { MatchResult result (λ n. Drafted (C.entries catalogue.now) filed text.now memory.new n) (λ f. Refuses (C.entries catalogue.now) filed text.now (length memory.old) (says f)) }
 {
     let whole = parse(catalogue, filed, text, memory)?;
     if whole.count > MOST_NODES {
@@ -70,7 +70,7 @@ pub fn read<C: Catalogue>(
     text: &[u8],
     memory: &mut [TermNode],
 ) -> Result<usize, FormulaFault>
-    ensures { MatchResult result (λ n. Accepted (entries catalogue.now) filed text.now memory.new n) (λ f. Refuses (entries catalogue.now) filed text.now (length memory.old) (says f) × (memory.new ≡ replicate (length memory.old) zero_node)) }
+    ensures { MatchResult result (λ n. Accepted (C.entries catalogue.now) filed text.now memory.new n) (λ f. Refuses (C.entries catalogue.now) filed text.now (length memory.old) (says f) × (memory.new ≡ replicate (length memory.old) zero_node)) }
 {
     match draft(catalogue, filed, text, memory) {
         Ok(count) => {

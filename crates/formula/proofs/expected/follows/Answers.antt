@@ -6,16 +6,16 @@ use Rattle.formula.proofs.Signs.{closing_is}
 use Rattle.formula.proofs.Tokens.{ends_closing, ends_none, goes_on}
 use Rattle.formula.proofs.expected.follows.Goals as goal
 
-pub returns-in-err-found : goal.returns-in-err-found
-returns-in-err-found c h =
-    let p = err_from_is_err_and c.from-residual.result c.from-residual.ensures.1 in
-    rw p.1 (λ ts r. rest_refused c.args.lexer.now.text.now c.args.from ts r _ (c.in-err-found.ensures h))
+pub returns-in_err-found : goal.returns-in_err-found
+returns-in_err-found c h =
+    let p = err_from_is_err_and c.from_residual.result c.from_residual.ensures.1 in
+    rw p.1 (λ ts r. rest_refused c.args.lexer.now.text.now c.args.from ts r _ (c.in_err-found.ensures h))
 
 pub returns-in-Close : goal.returns-in-Close
-returns-in-Close c h = ends_closing _ _ _ (c.in-ok-found.ensures h) c.in-Some.found c.in-Some.is (ap sign_of c.in-Close.is)
+returns-in-Close c h = ends_closing _ _ _ (c.in_ok-found.ensures h) c.in-Some.found c.in-Some.is (ap sign_of c.in-Close.is)
 
-pub returns-in-default : goal.returns-in-default
-returns-in-default c h = goes_on _ _ _ (c.in-ok-found.ensures h) c.in-Some.found c.in-Some.is (λ s. c.in-default.not-Close (closing_is _ s))
+pub returns-in_default : goal.returns-in_default
+returns-in_default c h = goes_on _ _ _ (c.in_ok-found.ensures h) c.in-Some.found c.in-Some.is (λ s. c.in_default.not-Close (closing_is _ s))
 
 pub returns-in-None : goal.returns-in-None
-returns-in-None c h = ends_none _ _ _ (c.in-ok-found.ensures h) c.in-None.is
+returns-in-None c h = ends_none _ _ _ (c.in_ok-found.ensures h) c.in-None.is

@@ -7,21 +7,21 @@ use Rattle.formula.proofs.parser.Reader.whole.Goals as goal
 pub expression-requires : goal.expression-requires
 expression-requires g c = record { inside = zero-le; few = c.requires.few; shallow = zero-le; low = omega arith; short = c.requires.short }
 
-pub returns-in-err-all : goal.returns-in-err-all
-returns-in-err-all g c =
-    let p = err_from_is_err_and c.from-residual-in-err-all.result c.from-residual-in-err-all.ensures.1 in
-    rw (p.1, p.2) (not_parsed _ _ c.in-ok-scan.ensures c.in-err-all.ensures)
+pub returns-in_err-all : goal.returns-in_err-all
+returns-in_err-all g c =
+    let p = err_from_is_err_and c.from_residual-in_err-all.result c.from_residual-in_err-all.ensures.1 in
+    rw (p.1, p.2) (not_parsed _ _ c.in_ok-scan.ensures c.in_err-all.ensures)
 
-pub returns-in-err-found : goal.returns-in-err-found
-returns-in-err-found g c =
-    let p = err_from_is_err_and c.from-residual-in-err-found.result c.from-residual-in-err-found.ensures.1 in
-    let e = c.in-ok-all.ensures.covered in
-    let all = c.in-ok-scan.ensures in
+pub returns-in_err-found : goal.returns-in_err-found
+returns-in_err-found g c =
+    let p = err_from_is_err_and c.from_residual-in_err-found.result c.from_residual-in_err-found.ensures.1 in
+    let e = c.in_ok-all.ensures.covered in
+    let all = c.in_ok-scan.ensures in
     let m = e.made all.tokens all.spelled in
-    rw (p.1, p.2) (absurd (rest_refused c.args.self.now.lexer.text.now c.in-ok-all.all.end m.rest m.remains _ (c.in-err-found.ensures e.advance.within)))
+    rw (p.1, p.2) (absurd (rest_refused c.args.self.now.lexer.text.now c.in_ok-all.all.end m.rest m.remains _ (c.in_err-found.ensures e.advance.within)))
 
 pub returns-in-Some : goal.returns-in-Some
-returns-in-Some g c = over_closed _ _ _ _ _ _ _ _ c.in-ok-scan.ensures c.in-ok-all.ensures _ c.in-Some.found c.in-Some.is (c.in-ok-found.ensures c.in-ok-all.ensures.covered.advance.within)
+returns-in-Some g c = over_closed _ _ _ _ _ _ _ _ c.in_ok-scan.ensures c.in_ok-all.ensures _ c.in-Some.found c.in-Some.is (c.in_ok-found.ensures c.in_ok-all.ensures.covered.advance.within)
 
 pub returns-in-None : goal.returns-in-None
-returns-in-None g c = parsed _ _ _ _ _ _ _ _ c.in-ok-scan.ensures c.in-ok-all.ensures _ c.in-None.is (c.in-ok-found.ensures c.in-ok-all.ensures.covered.advance.within)
+returns-in-None g c = parsed _ _ _ _ _ _ _ _ c.in_ok-scan.ensures c.in_ok-all.ensures _ c.in-None.is (c.in_ok-found.ensures c.in_ok-all.ensures.covered.advance.within)
