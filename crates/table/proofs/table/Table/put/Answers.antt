@@ -6,10 +6,10 @@ use Rattle.table.proofs.table.Table.put.Goals as goal
 pub bounds-entries-count : goal.bounds-entries-count
 bounds-entries-count c = omega (arith, rows_long c.args.self.now, c.requires.few)
 
-pub invariant-of-self : goal.invariant-of-self
-invariant-of-self c =
-    put_invariant c.args.self.now c.args.term.now c.args.list.now c.used-terms-term-start.result c.used-types-list-start.result c.copy-nodes.new.to c.copy-nodes-2.new.to c.requires.free c.requires.few c.requires.terms c.requires.lists c.requires.proper c.used-terms-term-start.ensures.nodes c.used-types-list-start.ensures.nodes c.copy-nodes.ensures c.copy-nodes-2.ensures
+pub invariant_of-self : goal.invariant_of-self
+invariant_of-self c =
+    put_invariant c.args.self.now c.args.term.now c.args.list.now c.used_terms-term_start.result c.used_types-list_start.result c.copy_nodes.new.to c.copy_nodes-2.new.to c.requires.free c.requires.few c.requires.terms c.requires.lists c.requires.proper c.used_terms-term_start.ensures.nodes c.used_types-list_start.ensures.nodes c.copy_nodes.ensures c.copy_nodes-2.ensures
 
 pub returns : goal.returns
 returns c =
-    put_view c.args.self.now c.args.term.now c.args.list.now c.used-terms-term-start.result c.used-types-list-start.result c.copy-nodes.new.to c.copy-nodes-2.new.to c.requires.free c.requires.few c.requires.terms c.requires.lists c.requires.proper c.used-terms-term-start.ensures.nodes c.used-types-list-start.ensures.nodes c.copy-nodes.ensures c.copy-nodes-2.ensures
+    put_view c.args.self.now c.args.term.now c.args.list.now c.used_terms-term_start.result c.used_types-list_start.result c.copy_nodes.new.to c.copy_nodes-2.new.to c.requires.free c.requires.few c.requires.terms c.requires.lists c.requires.proper c.used_terms-term_start.ensures.nodes c.used_types-list_start.ensures.nodes c.copy_nodes.ensures c.copy_nodes-2.ensures

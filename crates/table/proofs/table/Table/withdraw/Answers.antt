@@ -3,8 +3,8 @@ use Rattle.table.specs.Entries.{in_use}
 use Rattle.table.proofs.Changes.{fewer_rows, fewer_in_use, withdrawn_view}
 use Rattle.table.proofs.table.Table.withdraw.Goals as goal
 
-pub invariant-of-next : goal.invariant-of-next
-invariant-of-next c =
+pub invariant_of-next : goal.invariant_of-next
+invariant_of-next c =
     let t = c.args.self.now in
     fewer_rows t (in_use (t.count - 1) t.«open») (fewer_in_use t.count (t.count - 1) t.«open» (omega arith))
 
