@@ -3,8 +3,8 @@ use Rattle.std.proofs.lemmas.List.{length-take-le, get_or-take}
 use Rattle.typer.proofs.Solved.{no_solution, within, places_below, nodes_listed}
 use Rattle.typer.proofs.nodes.list_parts.Goals as goal
 
-pub list-types-requires : goal.list-types-requires
-list-types-requires g c =
+pub list_types-requires : goal.list_types-requires
+list_types-requires g c =
     let i = c.in-Some.ensures in
     let k = length c.args.places.now in
     let ps = c.infer.new.places in
@@ -30,14 +30,14 @@ narrow-requires g c =
     let fits : c.in-Some.used ≤ length c.infer.new.memory = omega (arith, i.needed, c.infer.auto.memory) in
     let long : length ps ≡ length c.args.terms.now = omega (arith, c.infer.auto.places) in
     record {
-      long = omega (arith, c.list-types.auto.roots);
+      long = omega (arith, c.list_types.auto.roots);
       small = λ p h.
           omega (
             arith,
-            places_below _ _ _ ps _ _ fits long i k c.requires.nodes _ _ _ l p (omega (arith, c.list-types.auto.roots)),
+            places_below _ _ _ ps _ _ fits long i k c.requires.nodes _ _ _ l p (omega (arith, c.list_types.auto.roots)),
             within _ _ _ ps _ _ fits long i k c.requires.nodes _ _ _ l,
             c.infer.auto.memory,
-            c.list-types.auto.memory,
+            c.list_types.auto.memory,
           );
     }
 

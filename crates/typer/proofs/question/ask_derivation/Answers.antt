@@ -11,8 +11,8 @@ returns-then-types-records g c = let e = c.in-Some.ensures in no_type_room (λ f
 pub returns-then-places-terms : goal.returns-then-places-terms
 returns-then-places-terms g c = let e = c.in-Some.ensures in no_place_room (record { few = e.few; records = omega arith }) (omega arith)
 
-pub returns-then-numbers-numbers-needed : goal.returns-then-numbers-numbers-needed
-returns-then-numbers-numbers-needed g c = let e = c.in-Some.ensures in no_number_room (record { few = e.few; records = omega arith }) (omega arith) (omega arith)
+pub returns-then-numbers-numbers_needed : goal.returns-then-numbers-numbers_needed
+returns-then-numbers-numbers_needed g c = let e = c.in-Some.ensures in no_number_room (record { few = e.few; records = omega arith }) (omega arith) (omega arith)
 
 pub returns : goal.returns
 returns g c =

@@ -5,8 +5,8 @@ use Rattle.infer.specs.Heads.{head_of, need as total}
 use Rattle.infer.proofs.Prefixes.{need_at}
 use Rattle.typer.proofs.question.few_records.Goals as goal
 
-pub returns-then-sum-gt-MOST-NODES : goal.returns-then-sum-gt-MOST-NODES
-returns-then-sum-gt-MOST-NODES g c =
+pub returns-then-sum-gt-MOST_NODES : goal.returns-then-sum-gt-MOST_NODES
+returns-then-sum-gt-MOST_NODES g c =
     let E : Lists = g.E.Source.list c.args.entries.now in
     let K : Lists = g.K.Source.list c.args.kept.now in
     let q = need_at E K c.args.terms.now c.loop-i.i (head_of (get_or c.args.terms.now c.loop-i.i zero_node)) (c.loop-i-test.true, refl) in
