@@ -56,9 +56,9 @@ fn is_arrow(list: &[TypeNode], whole: u16, from: u16, to: u16) -> bool
 // Copies list `k` to the front of the memory; the answer is its length.
 fn load<S: Source>(source: &S, k: u16, memory: &mut [TypeNode]) -> usize
     requires room { 4096 ≤ length memory.old }
-    ensures length { result ≡ length (list source.now k) }
+    ensures length { result ≡ length (S.list source.now k) }
     ensures few { result ≤ 4096 }
-    ensures same { take result memory.new ≡ list source.now k }
+    ensures same { take result memory.new ≡ S.list source.now k }
 {
     let n = source.nodes(k);
     let mut i = 0;
@@ -74,7 +74,7 @@ fn is_of_list<S: Source>(source: &S, k: u16, types: &[TypeNode], place: u16) -> 
     requires lawful { Lawful types.now }
     requires once { Once types.now }
     requires place { place < length types.now }
-    ensures { Decides result (OfList (list source.now k) (type_at types.now place)) }
+    ensures { Decides result (OfList (S.list source.now k) (type_at types.now place)) }
 {
     let mut general = [TypeNode {
         kind: 0,

@@ -8,29 +8,29 @@ use Rattle.derivation_check.proofs.check.Goals as goal
 pub returns-then-list-eq0 : goal.returns-then-list-eq0
 returns-then-list-eq0 g c = record { answer = refused_length _ _ _ _ _ c.then-list-eq0.either; typings = steps_are_typings }
 
-pub returns-then-not-is-lawful : goal.returns-then-not-is-lawful
-returns-then-not-is-lawful g c = record { answer = refused_unlawful _ _ _ _ _ (omega arith) (omega arith) (not_from_Decides _ c.is-lawful.ensures c.if-not-is-lawful.true); typings = steps_are_typings }
+pub returns-then-not-is_lawful : goal.returns-then-not-is_lawful
+returns-then-not-is_lawful g c = record { answer = refused_unlawful _ _ _ _ _ (omega arith) (omega arith) (not_from_Decides _ c.is_lawful.ensures c.if-not-is_lawful.true); typings = steps_are_typings }
 
-pub returns-then-not-is-once : goal.returns-then-not-is-once
-returns-then-not-is-once g c = record { answer = equal (c.is-lawful.ensures.0 c.if-not-is-lawful.false) (not_from_Decides _ c.is-once.ensures.once c.if-not-is-once.true); typings = steps_are_typings }
+pub returns-then-not-is_once : goal.returns-then-not-is_once
+returns-then-not-is_once g c = record { answer = equal (c.is_lawful.ensures.0 c.if-not-is_lawful.false) (not_from_Decides _ c.is_once.ensures.once c.if-not-is_once.true); typings = steps_are_typings }
 
-pub returns-then-not-are-places : goal.returns-then-not-are-places
-returns-then-not-are-places g c =
+pub returns-then-not-are_places : goal.returns-then-not-are_places
+returns-then-not-are_places g c =
     record {
-      answer = misplaced (c.is-lawful.ensures.0 c.if-not-is-lawful.false) (c.is-once.ensures.once.0 c.if-not-is-once.false) (not_from_Decides _ c.are-places.ensures c.if-not-are-places.true);
+      answer = misplaced (c.is_lawful.ensures.0 c.if-not-is_lawful.false) (c.is_once.ensures.once.0 c.if-not-is_once.false) (not_from_Decides _ c.are_places.ensures c.if-not-are_places.true);
       typings = steps_are_typings;
     }
 
 pub returns-in-None : goal.returns-in-None
 returns-in-None g c =
     record {
-      answer = checked _ _ _ _ _ (c.is-lawful.ensures.0 c.if-not-is-lawful.false) (c.is-once.ensures.once.0 c.if-not-is-once.false) (c.are-places.ensures.0 c.if-not-are-places.false) c.in-None.ensures;
+      answer = checked _ _ _ _ _ (c.is_lawful.ensures.0 c.if-not-is_lawful.false) (c.is_once.ensures.once.0 c.if-not-is_once.false) (c.are_places.ensures.0 c.if-not-are_places.false) c.in-None.ensures;
       typings = steps_are_typings;
     }
 
 pub returns-in-Some : goal.returns-in-Some
 returns-in-Some g c =
     record {
-      answer = refused_step _ _ _ _ _ _ (c.is-lawful.ensures.0 c.if-not-is-lawful.false) (c.is-once.ensures.once.0 c.if-not-is-once.false) (c.are-places.ensures.0 c.if-not-are-places.false) c.in-Some.ensures;
+      answer = refused_step _ _ _ _ _ _ (c.is_lawful.ensures.0 c.if-not-is_lawful.false) (c.is_once.ensures.once.0 c.if-not-is_once.false) (c.are_places.ensures.0 c.if-not-are_places.false) c.in-Some.ensures;
       typings = steps_are_typings;
     }
