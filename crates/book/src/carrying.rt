@@ -45,7 +45,7 @@ impl<C: Catalogue> Book<C> {
         types: &mut [TypeNode],
         numbers: &mut [u32],
     ) -> Answer
-        ensures { Link entries self.old (to_submit (submission text.now terms.old types.old numbers.old)) (reply_of result) self.new }
+        ensures { Link C.entries self.old (to_submit (submission text.now terms.old types.old numbers.old)) (reply_of result) self.new }
     {
         match self.submit(text, terms, types, numbers) {
             Ok(ticket) => Answer::Opened(ticket.spend()),
@@ -54,7 +54,7 @@ impl<C: Catalogue> Book<C> {
     }
 
     fn file_candidate(&mut self) -> Answer
-        ensures { Link entries self.old to_file (reply_of result) self.new }
+        ensures { Link C.entries self.old to_file (reply_of result) self.new }
     {
         match self.file(Ticket::new(0)) {
             Ok(number) => Answer::Filed(number),
@@ -66,7 +66,7 @@ impl<C: Catalogue> Book<C> {
     }
 
     fn dismiss_candidate(&mut self) -> Answer
-        ensures { Link entries self.old to_dismiss (reply_of result) self.new }
+        ensures { Link C.entries self.old to_dismiss (reply_of result) self.new }
     {
         match self.dismiss(Ticket::new(0)) {
             Ok(()) => Answer::Dismissed,
@@ -88,7 +88,7 @@ impl<C: Catalogue> Book<C> {
         places: &mut [u16],
         out: &mut [u8],
     ) -> Answer
-        ensures { Carries entries self.old texts.now (rooms_of terms.old types.old numbers.old places.old out.old) dealing result self.new }
+        ensures { Carries C.entries self.old texts.now (rooms_of terms.old types.old numbers.old places.old out.old) dealing result self.new }
     {
         match dealing {
             Dealing::Submit(from, to) => {
@@ -134,7 +134,7 @@ pub fn keep_book<C: Catalogue>(
     out: &mut [u8],
     answers: &mut [Answer],
 ) -> Book<C>
-    ensures { CarriedOut entries (entries catalogue) texts.now (rooms_of terms.old types.old numbers.old places.old out.old) (take (length answers.old) dealings.now) (take (length dealings.now) answers.new) result }
+    ensures { CarriedOut C.entries (C.entries catalogue) texts.now (rooms_of terms.old types.old numbers.old places.old out.old) (take (length answers.old) dealings.now) (take (length dealings.now) answers.new) result }
 {
     let count = dealings.len().min(answers.len());
     let mut book = Book::new(catalogue);

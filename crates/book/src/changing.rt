@@ -15,7 +15,7 @@ impl<C: Catalogue> Book<C> {
     // statement holds.
     pub fn new(catalogue: C) -> Book<C>
         ensures given { result.catalogue ≡ catalogue }
-        ensures every { EveryRun entries result }
+        ensures every { EveryRun C.entries result }
     {
         Book {
             catalogue,
@@ -26,7 +26,7 @@ impl<C: Catalogue> Book<C> {
     // Files the candidate, and answers its number: how many formulas were filed before. The ticket is spent then; if no
     // candidate is open, it comes back.
     pub fn file(&mut self, ticket: Ticket) -> Result<u16, (BookFault, Ticket)>
-        ensures done { Does entries self.old to_file (reply_file result) self.new }
+        ensures done { Does C.entries self.old to_file (reply_file result) self.new }
         ensures back { ComesBack ticket result }
         ensures answered { WhereOpen (has_candidate self.old) result }
         ensures kept { RefusalKeeps result self.old self.new }
@@ -42,7 +42,7 @@ impl<C: Catalogue> Book<C> {
 
     // Drops the candidate. The ticket is spent then; if no candidate is open, it comes back.
     pub fn dismiss(&mut self, ticket: Ticket) -> Result<(), (BookFault, Ticket)>
-        ensures done { Does entries self.old to_dismiss (reply_dismiss result) self.new }
+        ensures done { Does C.entries self.old to_dismiss (reply_dismiss result) self.new }
         ensures back { ComesBack ticket result }
         ensures answered { WhereOpen (has_candidate self.old) result }
         ensures kept { RefusalKeeps result self.old self.new }
@@ -57,7 +57,7 @@ impl<C: Catalogue> Book<C> {
 
     // Drops the newest filed formula, and answers its number.
     pub fn withdraw(&mut self) -> Result<u16, BookFault>
-        ensures done { Does entries self.old to_withdraw (reply_withdraw result) self.new }
+        ensures done { Does C.entries self.old to_withdraw (reply_withdraw result) self.new }
         ensures kept { RefusalKeeps result self.old self.new }
     {
         if self.table.is_open() {

@@ -29,8 +29,8 @@ impl<C: Catalogue> Book<C> {
         places: &mut [u16],
         numbers: &mut [u32],
     ) -> Result<usize, BookFault>
-        ensures done { Does entries self.now (to_derive number (length types.old) (length places.old) (length numbers.old)) (reply_derive result) self.now }
-        ensures typing { MatchResult result (λ n. Derived (entered (entries self.now.catalogue)) (kept_lists (view self.now.table)) (kept_row (view self.now.table) number).term types.new places.new numbers.new n) (λ f. NotDerived (entered (entries self.now.catalogue)) (kept_lists (view self.now.table)) (view self.now.table) number types.old types.new places.old places.new numbers.old numbers.new (says f)) }
+        ensures done { Does C.entries self.now (to_derive number (length types.old) (length places.old) (length numbers.old)) (reply_derive result) self.now }
+        ensures typing { MatchResult result (λ n. Derived (entered (C.entries self.now.catalogue)) (kept_lists (view self.now.table)) (kept_row (view self.now.table) number).term types.new places.new numbers.new n) (λ f. NotDerived (entered (C.entries self.now.catalogue)) (kept_lists (view self.now.table)) (view self.now.table) number types.old types.new places.old places.new numbers.old numbers.new (says f)) }
     {
         if number >= self.table.count() {
             return Err(BookFault::NotFiled);
@@ -46,8 +46,8 @@ impl<C: Catalogue> Book<C> {
 
     // Whether a list of types, with a place in it for each node of a filed formula, is a typing derivation of it.
     pub fn check(&self, number: u16, list: &[TypeNode], places: &[u16]) -> Result<(), BookFault>
-        ensures done { Does entries self.now (to_check number list.now places.now) (reply_check result) self.now }
-        ensures steps { MatchResult result (λ _. Checked (entered (entries self.now.catalogue)) (kept_lists (view self.now.table)) (kept_row (view self.now.table) number).term list.now places.now) (λ f. NotChecked (entered (entries self.now.catalogue)) (kept_lists (view self.now.table)) (view self.now.table) number list.now places.now (says f)) }
+        ensures done { Does C.entries self.now (to_check number list.now places.now) (reply_check result) self.now }
+        ensures steps { MatchResult result (λ _. Checked (entered (C.entries self.now.catalogue)) (kept_lists (view self.now.table)) (kept_row (view self.now.table) number).term list.now places.now) (λ f. NotChecked (entered (C.entries self.now.catalogue)) (kept_lists (view self.now.table)) (view self.now.table) number list.now places.now (says f)) }
     {
         if number >= self.table.count() {
             return Err(BookFault::NotFiled);

@@ -86,7 +86,7 @@ pub(crate) fn judge<C: Catalogue>(
 ) -> Result<Judged, BookFault>
     requires { Admits (view table.now) (length text.now) }
     ensures keeps { MatchResult result (λ j. Keepable (view table.now) terms.new types.new j) (λ f. unread f ≡ false) }
-    ensures ledger { (l : Ledger) → Stands (entries catalogue.now) (view table.now) l → MatchResult result (λ j. Found (entries catalogue.now) l (submission text.now terms.old types.old numbers.old) terms.new types.new j) (λ f. Unsubmitted (entries catalogue.now) l (submission text.now terms.old types.old numbers.old) (says f)) }
+    ensures ledger { (l : Ledger) → Stands (C.entries catalogue.now) (view table.now) l → MatchResult result (λ j. Found (C.entries catalogue.now) l (submission text.now terms.old types.old numbers.old) terms.new types.new j) (λ f. Unsubmitted (C.entries catalogue.now) l (submission text.now terms.old types.old numbers.old) (says f)) }
 {
     let nodes = read(catalogue, table.count(), text, terms)?;
     let entries = Entries { catalogue };

@@ -19,7 +19,7 @@ impl<C: Catalogue> Book<C> {
     // Writes the type of a formula, filed or the candidate, and answers the text's length; what lies beyond it in `out`,
     // and on a refusal all of it, is as it was.
     pub fn show(&self, number: u16, out: &mut [u8]) -> Result<usize, BookFault>
-        ensures done { Does entries self.now (to_show number (length out.old)) (reply_show result) self.now }
+        ensures done { Does C.entries self.now (to_show number (length out.old)) (reply_show result) self.now }
         ensures text { MatchResult result (λ n. Printed (kept_row (view self.now.table) number).list out.old out.new n) (λ _. out.new ≡ out.old) }
     {
         if !self.table.has_row(number) {
@@ -37,7 +37,7 @@ impl<C: Catalogue> Book<C> {
     // Writes the line of an outcome, `#n : TYPE` or `refused N at P`, with its end, and answers its length; what lies beyond
     // it in `out`, and on a refusal all of it, is as it was.
     pub fn line(&self, outcome: Outcome, out: &mut [u8]) -> Result<usize, BookFault>
-        ensures done { Does entries self.now (to_line (outcome_of outcome) (length out.old)) (reply_line result) self.now }
+        ensures done { Does C.entries self.now (to_line (outcome_of outcome) (length out.old)) (reply_line result) self.now }
         ensures text { MatchResult result (λ n. Lined (outcome_line (view self.now.table) outcome) out.old out.new n) (λ _. out.new ≡ out.old) }
     {
         if out.len() < LINE_ROOM {

@@ -26,7 +26,7 @@ impl<C: Catalogue> Book<C> {
         numbers: &mut [u32],
     ) -> Result<u16, BookFault>
         requires { Admits (view self.old.table) (length text.now) }
-        ensures link { Link entries self.old (to_submit (submission text.now terms.old types.old numbers.old)) (numbered it_opens result) self.new }
+        ensures link { Link C.entries self.old (to_submit (submission text.now terms.old types.old numbers.old)) (numbered it_opens result) self.new }
         ensures work { untouched result ≡ false }
         ensures kept { RefusalKeeps result self.old self.new }
         ensures candidate { Opens (has_candidate self.new) result }
@@ -48,7 +48,7 @@ impl<C: Catalogue> Book<C> {
         types: &mut [TypeNode],
         numbers: &mut [u32],
     ) -> Result<Ticket, BookFault>
-        ensures done { Does entries self.old (to_submit (submission text.now terms.old types.old numbers.old)) (reply_submit result) self.new }
+        ensures done { Does C.entries self.old (to_submit (submission text.now terms.old types.old numbers.old)) (reply_submit result) self.new }
         ensures memories { Leaves (untouched result) terms.old terms.new types.old types.new numbers.old numbers.new }
         ensures ticket { Unspent result }
         ensures kept { RefusalKeeps result self.old self.new }

@@ -17,7 +17,7 @@ pub fn submit_and_file<C: Catalogue>(
     types: &mut [TypeNode],
     numbers: &mut [u32],
 ) -> Result<u16, BookFault>
-    ensures { Ends entries book.old (submission text.now terms.old types.old numbers.old) to_file (λ n. is_filed n) book.new result }
+    ensures { Ends C.entries book.old (submission text.now terms.old types.old numbers.old) to_file (λ n. is_filed n) book.new result }
 {
     match book.submit(text, terms, types, numbers) {
         Ok(ticket) => match book.file(ticket) {
@@ -36,7 +36,7 @@ pub fn submit_and_dismiss<C: Catalogue>(
     types: &mut [TypeNode],
     numbers: &mut [u32],
 ) -> Result<(), BookFault>
-    ensures { Ends entries book.old (submission text.now terms.old types.old numbers.old) to_dismiss (λ _. is_dismissed) book.new result }
+    ensures { Ends C.entries book.old (submission text.now terms.old types.old numbers.old) to_dismiss (λ _. is_dismissed) book.new result }
 {
     match book.submit(text, terms, types, numbers) {
         Ok(ticket) => match book.dismiss(ticket) {

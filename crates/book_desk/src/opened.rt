@@ -19,9 +19,9 @@ pub fn refused_submit<C: Catalogue>(
     types: &mut [TypeNode],
     numbers: &mut [u32],
 ) -> BookFault
-    requires { Open entries book.old }
+    requires { Open C.entries book.old }
     ensures refusal { says result ≡ saying 10 of_the_book 0 }
-    ensures still { Open entries book.new }
+    ensures still { Open C.entries book.new }
 {
     match book.submit(text, terms, types, numbers) {
         Ok(_) => unreachable(),
@@ -31,9 +31,9 @@ pub fn refused_submit<C: Catalogue>(
 
 // Withdraws while a candidate is open, and answers the refusal.
 pub fn refused_withdrawal<C: Catalogue>(book: &mut Book<C>) -> BookFault
-    requires { Open entries book.old }
+    requires { Open C.entries book.old }
     ensures refusal { says result ≡ saying 62 of_the_book 0 }
-    ensures still { Open entries book.new }
+    ensures still { Open C.entries book.new }
 {
     match book.withdraw() {
         Ok(_) => unreachable(),

@@ -76,7 +76,7 @@ fn derived<C: Catalogue>(
     places: usize,
     numbers: usize,
 ) -> Result<Result<usize, BookFault>, AllocError>
-    ensures { IfOk result (λ a. Does entries book.now (to_derive 0 types places numbers) (reply_derive a) book.now) }
+    ensures { IfOk result (λ a. Does C.entries book.now (to_derive 0 types places numbers) (reply_derive a) book.now) }
 {
     let mut types = vec![in heap; ZERO_NODE; types]?;
     let mut places = vec![in heap; 0u16; places]?;
@@ -99,7 +99,7 @@ fn line_in<C: Catalogue>(
     book: &Book<C>,
     room: usize,
 ) -> Result<Result<usize, BookFault>, AllocError>
-    ensures { IfOk result (λ a. Does entries book.now (to_line (filed_as 0) room) (reply_line a) book.now) }
+    ensures { IfOk result (λ a. Does C.entries book.now (to_line (filed_as 0) room) (reply_line a) book.now) }
 {
     let mut out = vec![in heap; 0u8; room]?;
     Ok(book.line(Outcome::Filed(0), &mut out))
@@ -111,7 +111,7 @@ fn show_in<C: Catalogue>(
     book: &Book<C>,
     room: usize,
 ) -> Result<Result<usize, BookFault>, AllocError>
-    ensures { IfOk result (λ a. Does entries book.now (to_show 0 room) (reply_show a) book.now) }
+    ensures { IfOk result (λ a. Does C.entries book.now (to_show 0 room) (reply_show a) book.now) }
 {
     let mut out = vec![in heap; 0u8; room]?;
     Ok(book.show(0, &mut out))

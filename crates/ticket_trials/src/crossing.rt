@@ -48,7 +48,7 @@ pub fn another_books_ticket(rt: &HostRuntime, desk: &mut Desk) -> io::Result<()>
 // Dismisses the candidate that a book has open.
 fn dismiss_open<C: Catalogue>(book: &mut Book<C>, ticket: Ticket)
     requires { has_candidate book.old ≡ true }
-    ensures { Does entries book.old to_dismiss is_dismissed book.new }
+    ensures { Does C.entries book.old to_dismiss is_dismissed book.new }
 {
     match book.dismiss(ticket) {
         Ok(()) => {}

@@ -51,7 +51,7 @@ fn while_open<C: Catalogue>(
     ticket: Ticket,
     desk: &mut Desk,
 ) -> io::Result<()>
-    requires { Open entries book.old }
+    requires { Open C.entries book.old }
 {
     desk.scribble();
     let second = refused_submit(

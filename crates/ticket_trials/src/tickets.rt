@@ -25,7 +25,7 @@ pub fn file_in_either<C: Catalogue>(
     ticket: Ticket,
 ) -> Spent
     requires { has_candidate there.old ≡ true }
-    ensures { Filed entries here.old here.new there.old there.new result }
+    ensures { Filed C.entries here.old here.new there.old there.new result }
 {
     match here.file(ticket) {
         Ok(number) => Spent::Here(number),
@@ -48,7 +48,7 @@ pub fn file_crosswise<C: Catalogue>(
 ) -> (u16, u16)
     requires here { has_candidate here.old ≡ true }
     requires there { has_candidate there.old ≡ true }
-    ensures { Does entries here.old to_file (is_filed result.0) here.new × Does entries there.old to_file (is_filed result.1) there.new }
+    ensures { Does C.entries here.old to_file (is_filed result.0) here.new × Does C.entries there.old to_file (is_filed result.1) there.new }
 {
     match here.file(yours) {
         Ok(first) => match there.file(mine) {
