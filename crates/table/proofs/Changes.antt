@@ -18,45 +18,31 @@ use Rattle.table.proofs.Passing.{proper_row}
 use Rattle.table.proofs.Views.{held_if, kept_is, term_nodes_end, list_nodes_end}
 
 -- what a table owes for n rows
-abbrev pub Invariant : List Entry → List TermNode → List TypeNode → ℕ → Type 0
-Invariant es terms types n =
-    (length es ≡ 128)
-    × ((length terms ≡ 4096)
-    × ((length types ≡ 4096)
-    × ((n ≤ 128)
-    × (InOrder start_of_term term_long es n
-    × (InOrder start_of_list list_long es n
-    × ((end_of start_of_term term_long es n ≤ 4096)
-    × ((end_of start_of_list list_long es n ≤ 4096)
-    × (RowsPass es terms types n × Unit {0}))))))))
+pub record Invariant (es : List Entry) (terms : List TermNode) (types : List TypeNode) (n : ℕ) : Type 0 where
+  pub entries_long : length es ≡ 128
+  pub terms_long : length terms ≡ 4096
+  pub types_long : length types ≡ 4096
+  pub few : n ≤ 128
+  pub terms_order : InOrder start_of_term term_long es n
+  pub lists_order : InOrder start_of_list list_long es n
+  pub terms_within : end_of start_of_term term_long es n ≤ 4096
+  pub lists_within : end_of start_of_list list_long es n ≤ 4096
+  pub rows_pass : RowsPass es terms types n
 
 pub fewer_rows : (t : Table) (m : ℕ) → m ≤ in_use t.count t.«open» → Invariant t.entries t.terms t.types m
 fewer_rows t m h =
-    let n : ℕ = in_use t.count t.«open» in (
-      t.entries_long,
-      (
-        t.terms_long,
-        (
-          t.types_long,
-          (
-            omega (arith, t.few),
-            (
-              fewer_in_order start_of_term term_long t.entries n m h t.terms_order,
-              (
-                fewer_in_order start_of_list list_long t.entries n m h t.lists_order,
-                (
-                  omega (arith, ends_rise start_of_term term_long t.entries n t.terms_order m h, t.terms_within),
-                  (
-                    omega (arith, ends_rise start_of_list list_long t.entries n t.lists_order m h, t.lists_within),
-                    ((λ k lt. t.rows_pass k (omega arith)), tt),
-                  ),
-                ),
-              ),
-            ),
-          ),
-        ),
-      ),
-    )
+    let n : ℕ = in_use t.count t.«open» in
+    record {
+      entries_long = t.entries_long;
+      terms_long = t.terms_long;
+      types_long = t.types_long;
+      few = omega (arith, t.few);
+      terms_order = fewer_in_order start_of_term term_long t.entries n m h t.terms_order;
+      lists_order = fewer_in_order start_of_list list_long t.entries n m h t.lists_order;
+      terms_within = omega (arith, ends_rise start_of_term term_long t.entries n t.terms_order m h, t.terms_within);
+      lists_within = omega (arith, ends_rise start_of_list list_long t.entries n t.lists_order m h, t.lists_within);
+      rows_pass = λ k lt. t.rows_pass k (omega arith);
+    }
 
 -- a candidate, its nodes written behind those of all rows
 module _ (t : Table) (term : List TermNode) (list : List TypeNode) (s u : ℕ) (terms : List TermNode) (types : List TypeNode)
@@ -123,31 +109,18 @@ module _ (t : Table) (term : List TermNode) (list : List TypeNode) (s u : ℕ) (
       (cases_eq k t.count)
 
   pub put_invariant : Invariant new_entries terms types (suc t.count)
-  put_invariant = (
-    length-set t.entries t.count new_entry ∙ t.entries_long,
-    (
-      ap length written-s ∙ length-paste t.terms s term (length term) (omega (arith, at-s, room-s, t.terms_long)) (omega arith) ∙ t.terms_long,
-      (
-        ap length written-u ∙ length-paste t.types u list (length list) (omega (arith, at-u, room-u, t.types_long)) (omega arith) ∙ t.types_long,
-        (
-          omega (arith, place),
-          (
-            order_set start_of_term term_long t.entries t.count new_entry within terms_in_order s_end,
-            (
-              order_set start_of_list list_long t.entries t.count new_entry within lists_in_order u_end,
-              (
-                omega (arith, end_added start_of_term term_long t.entries t.count new_entry within, at-s, room-s),
-                (
-                  omega (arith, end_added start_of_list list_long t.entries t.count new_entry within, at-u, room-u),
-                  (rows_pass, tt),
-                ),
-              ),
-            ),
-          ),
-        ),
-      ),
-    ),
-  )
+  put_invariant =
+      record {
+        entries_long = length-set t.entries t.count new_entry ∙ t.entries_long;
+        terms_long = ap length written-s ∙ length-paste t.terms s term (length term) (omega (arith, at-s, room-s, t.terms_long)) (omega arith) ∙ t.terms_long;
+        types_long = ap length written-u ∙ length-paste t.types u list (length list) (omega (arith, at-u, room-u, t.types_long)) (omega arith) ∙ t.types_long;
+        few = omega (arith, place);
+        terms_order = order_set start_of_term term_long t.entries t.count new_entry within terms_in_order s_end;
+        lists_order = order_set start_of_list list_long t.entries t.count new_entry within lists_in_order u_end;
+        terms_within = omega (arith, end_added start_of_term term_long t.entries t.count new_entry within, at-s, room-s);
+        lists_within = omega (arith, end_added start_of_list list_long t.entries t.count new_entry within, at-u, room-u);
+        rows_pass = rows_pass;
+      }
 
   pub put_view : record { rows = map (row_at terms types) (take t.count new_entries); candidate = candidate_if true (row_at terms types (get_or new_entries t.count no_entry)) } ≡ with_candidate (view t) (row term list)
   put_view =
