@@ -21,7 +21,7 @@ use Rattle.normal.proofs.Meaning.{normal_means, normal_once, normal_lawful, norm
 use Rattle.normal.proofs.Rename.{mutual_keeps_list, renaming_keeps_list}
 use Rattle.typer.specs.Answers.{PrincipalType, PrincipalTyping, Cleared, Zeros, OneTypeList, OneTypingList}
 use Rattle.typer.specs.Nodes.{of, NodesListed}
-use Rattle.typer.specs.Derivations.{Derived}
+use Rattle.typer.specs.Derivations.{DerivedNodes}
 use Rattle.typer.proofs.Mapped.{typing_mapped, list_applied, principal_type, principal_simple}
 use Rattle.typer.proofs.Wholes.{zeros_behind}
 
@@ -59,7 +59,7 @@ derivation_begins E K t us h w p τ q =
     subst (λ (l : List TypeNode). take (length l) (normal us) ≡ l) same (begins_with us h w)
 
 module _ (E K : Lists) (ts : List TermNode) (we : (k : ℕ) → 0 < length (E k) → Lawful (E k)) (wk : (k : ℕ) → 0 < length (K k) → Lawful (K k)) where
-  pub derived : (qs more places : List ℕ) (sub rest types : List TypeNode) (numbers : List ℕ) (n : ℕ) → length qs ≡ length ts → length sub ≡ need E K ts → length sub ≤ 4096 → NodesListed E K ts qs sub n → Cleared rest → types ≡ sub ++ rest → Zeros more → places ≡ qs ++ more → Zeros numbers → Derived E K ts types places numbers n
+  pub derived : (qs more places : List ℕ) (sub rest types : List TypeNode) (numbers : List ℕ) (n : ℕ) → length qs ≡ length ts → length sub ≡ need E K ts → length sub ≤ 4096 → NodesListed E K ts qs sub n → Cleared rest → types ≡ sub ++ rest → Zeros more → places ≡ qs ++ more → Zeros numbers → DerivedNodes E K ts types places numbers n
   derived qs more places sub rest types numbers n one full few l r w m pl z =
       let us = l.types in
       let whole : take (length qs) us ≡ us = take_all (length qs) us (omega (arith, l.long)) in
@@ -71,26 +71,30 @@ module _ (E K : Lists) (ts : List TermNode) (we : (k : ℕ) → 0 < length (E k)
       let stands : (k : ℕ) → k < length ts → get_or places k 0 ≡ place (parts us) (of us k) = λ k h.
       ap (λ (xs : List ℕ). get_or xs k 0) pl ∙ get_or_append_left qs more 0 k (omega arith) ∙ l.places k (omega arith) ∙ ap (λ (xs : List Ty). place (parts xs) (of us k)) whole in
       record {
-        nodes = us;
-        long = long;
-        count = count;
-        within = omega arith;
-        holds = zeros_behind zero_node (normal us) sub rest types n count here (l.holds ∙ ap (λ (xs : List TypeNode). xs ++ replicate (length sub - n) zero_node) list) r w;
-        stands = stands;
-        behind = λ k h.
-            ap (λ (xs : List ℕ). get_or xs k 0) pl ∙ get_or-append_right qs more (length qs) k 0 refl (omega arith)
-            ∙ ⊎_elim
-            (λ (g : k - length qs < length more). ap (λ (xs : List ℕ). get_or xs (k - length qs) 0) m ∙ get_or-replicate (length more) (k - length qs) 0 0 g)
-            (λ (g : length more ≤ k - length qs). get_or_past more (k - length qs) 0 g)
-            (cases_lt (k - length qs) (length more));
-        zeros = z;
-        once = (normal_once us l.proper).0;
-        lawful = λ t e. derivation_lawful E K t us l.proper (long ∙ sym (ap length e)) (l.principal t e) we wk (omega arith);
-        principal = λ t e.
-            let same : size t ≡ length ts = ap length e in
-            numbered_principal E K t us l.proper (long ∙ sym (ap length e)) (l.principal t e) (λ k. type_at (normal us) (get_or places k 0))
-            (λ k h. ap (type_at (normal us)) (stands k (omega arith)) ∙ normal_means.1 us k l.proper (omega arith));
-        begins = λ t e. derivation_begins E K t us (omega arith) l.proper (principal_type E K t (of us) (l.principal t e));
+        derived =
+            record {
+              nodes = us;
+              long = long;
+              count = count;
+              within = omega arith;
+              holds = zeros_behind zero_node (normal us) sub rest types n count here (l.holds ∙ ap (λ (xs : List TypeNode). xs ++ replicate (length sub - n) zero_node) list) r w;
+              stands = stands;
+              behind = λ k h.
+                  ap (λ (xs : List ℕ). get_or xs k 0) pl ∙ get_or-append_right qs more (length qs) k 0 refl (omega arith)
+                  ∙ ⊎_elim
+                  (λ (g : k - length qs < length more). ap (λ (xs : List ℕ). get_or xs (k - length qs) 0) m ∙ get_or-replicate (length more) (k - length qs) 0 0 g)
+                  (λ (g : length more ≤ k - length qs). get_or_past more (k - length qs) 0 g)
+                  (cases_lt (k - length qs) (length more));
+              zeros = z;
+              once = (normal_once us l.proper).0;
+              lawful = λ t e. derivation_lawful E K t us l.proper (long ∙ sym (ap length e)) (l.principal t e) we wk (omega arith);
+              principal = λ t e.
+                  let same : size t ≡ length ts = ap length e in
+                  numbered_principal E K t us l.proper (long ∙ sym (ap length e)) (l.principal t e) (λ k. type_at (normal us) (get_or places k 0))
+                  (λ k h. ap (type_at (normal us)) (stands k (omega arith)) ∙ normal_means.1 us k l.proper (omega arith));
+              begins = λ t e. derivation_begins E K t us (omega arith) l.proper (principal_type E K t (of us) (l.principal t e));
+            };
+        typing = l.principal;
       }
 
 -- ---- one list for all

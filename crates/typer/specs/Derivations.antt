@@ -56,6 +56,11 @@ pub record Derived (E K : Lists) (ts : List TermNode) (types : List TypeNode) (p
   -- the list begins with that of the term's most general type
   pub begins : (t : Term) → prefix t ≡ ts → (τ : Ty) → PrincipalType E K t τ → take (length (normal_of τ)) (normal nodes) ≡ normal_of τ
 
+-- the typing whose list that is is principal as well
+pub record DerivedNodes (E K : Lists) (ts : List TermNode) (types : List TypeNode) (places numbers : List ℕ) (n : ℕ) : Type 0 where
+  pub derived : Derived E K ts types places numbers n
+  pub typing : (t : Term) → prefix t ≡ ts → PrincipalTyping E K t (of derived.nodes)
+
 -- The first question that is answered with no. Those before the work leave the memories as they were; that the term has
 -- no type (40) leaves zeros in all three.
 pub data Underived (E K : Lists) (ts : List TermNode) (types types' : List TypeNode) (places places' numbers numbers' : List ℕ) : Refusal → Type 0 where

@@ -1,10 +1,12 @@
 // The most general type of a term, and its derivation, over memories that are passed in.
 #![tactic(auto)]
 
-ghost use Rattle.std.specs.Prelude.{◌≡◌, ℕ, length, MatchResult};
+ghost use Rattle.std.specs.Prelude.{◌≡◌, ℕ, length, IfOk, MatchResult};
+ghost use Rattle.infer.specs.Heads.{need};
 ghost use Rattle.typer.specs.Faults.{says, derive_says};
 ghost use Rattle.typer.specs.Answers.{Typed, Refuses, OneTypeList, OneTypingList};
-ghost use Rattle.typer.specs.Derivations.{Derived, Underived};
+ghost use Rattle.typer.specs.Derivations.{Holds, Derived, DerivedNodes, Underived};
+ghost use Rattle.typer.specs.Questions.{Serves};
 
 use crate::fault::{DeriveFault, TypesFault};
 use crate::nodes::{clear, clear_numbers, clear_places, list_nodes};
@@ -35,7 +37,8 @@ pub fn type_term<E: Source, K: Source>(
     types: &mut [TypeNode],
     numbers: &mut [u32],
 ) -> Result<usize, TypesFault>
-    ensures { MatchResult result (λ n. Typed (E.Source.list entries.now) (K.Source.list kept.now) terms.now types.new numbers.new n) (λ f. Refuses (E.Source.list entries.now) (K.Source.list kept.now) terms.now types.old types.new numbers.old numbers.new (says f)) }
+    ensures answer { MatchResult result (λ n. Typed (E.Source.list entries.now) (K.Source.list kept.now) terms.now types.new numbers.new n) (λ f. Refuses (E.Source.list entries.now) (K.Source.list kept.now) terms.now types.old types.new numbers.old numbers.new (says f)) }
+    ensures served { IfOk result (λ _. Serves (need (E.Source.list entries.now) (K.Source.list kept.now) terms.now) (length terms.now) (length types.old) (length numbers.old)) }
 {
     let records = ask(entries, kept, terms, types.len(), numbers.len())?;
     let mut root = [0u16];
@@ -67,7 +70,9 @@ pub fn derive<E: Source, K: Source>(
     places: &mut [u16],
     numbers: &mut [u32],
 ) -> Result<usize, DeriveFault>
-    ensures { MatchResult result (λ n. Derived (E.Source.list entries.now) (K.Source.list kept.now) terms.now types.new places.new numbers.new n) (λ f. Underived (E.Source.list entries.now) (K.Source.list kept.now) terms.now types.old types.new places.old places.new numbers.old numbers.new (derive_says f)) }
+    ensures answer { MatchResult result (λ n. Derived (E.Source.list entries.now) (K.Source.list kept.now) terms.now types.new places.new numbers.new n) (λ f. Underived (E.Source.list entries.now) (K.Source.list kept.now) terms.now types.old types.new places.old places.new numbers.old numbers.new (derive_says f)) }
+    ensures held { IfOk result (λ _. Holds (need (E.Source.list entries.now) (K.Source.list kept.now) terms.now) (length terms.now) (length types.old) (length places.old) (length numbers.old)) }
+    ensures nodes { IfOk result (λ n. DerivedNodes (E.Source.list entries.now) (K.Source.list kept.now) terms.now types.new places.new numbers.new n) }
 {
     let nodes = terms.len();
     let records = ask_derivation(

@@ -10,7 +10,7 @@ use Rattle.typer.proofs.derive.Goals as goal
 pub returns-in_err-records : goal.returns-in_err-records
 returns-in_err-records g c =
     let p = err_from_is_err_and c.from_residual.result c.from_residual.ensures.1 in
-    rw (p.1, p.2) (roomless c.in_err-records.ensures refl refl refl)
+    rw (p.1, p.2) (record { answer = roomless c.in_err-records.ensures refl refl refl; held = tt; nodes = tt })
 
 pub returns-in-Some : goal.returns-in-Some
 returns-in-Some g c =
@@ -22,10 +22,12 @@ returns-in-Some g c =
     let served : a ≤ length c.args.types.now = omega (arith, q.is, q.holds.serves.records) in
     let front : length sub ≡ a = omega (arith, c.list_nodes-found.auto.memory, length-take-le a c.args.types.now served) in
     let placed : length qs ≡ b = omega (arith, c.list_nodes-found.auto.places, length-take-le b c.args.places.now q.holds.wide) in
+    let d =
     derived _ _ _ (g.E.Source.lawful c.args.entries.now) (g.K.Source.lawful c.args.kept.now) qs c.clear_places.new.places _ sub c.clear.new.memory _ _ _
     placed (omega (arith, q.is)) (omega (arith, q.is, q.holds.serves.few)) c.in-Some.ensures c.clear.ensures
     (rest_written sub (drop a c.args.types.now) c.clear.new.memory a _ front refl) c.clear_places.ensures
-    (rest_written qs (drop b c.args.places.now) c.clear_places.new.places b _ placed refl) c.clear_numbers.ensures
+    (rest_written qs (drop b c.args.places.now) c.clear_places.new.places b _ placed refl) c.clear_numbers.ensures in
+    record { answer = d.derived; held = q.holds; nodes = d }
 
 pub returns-in-None : goal.returns-in-None
 returns-in-None g c =
@@ -35,6 +37,11 @@ returns-in-None g c =
     let o = c.in-None.ensures in
     let served : a ≤ length c.args.types.now = omega (arith, q.is, q.holds.serves.records) in
     let front : length sub ≡ a = omega (arith, c.list_nodes-found.auto.memory, length-take-le a c.args.types.now served) in
-    no_type q.holds o.none
-    (all_zeros zero_node sub c.clear.new.memory _ o.clear c.clear.ensures (rest_written sub (drop a c.args.types.now) c.clear.new.memory a _ front refl))
-    c.clear_places-in-None.ensures c.clear_numbers.ensures
+    record {
+      answer =
+          no_type q.holds o.none
+          (all_zeros zero_node sub c.clear.new.memory _ o.clear c.clear.ensures (rest_written sub (drop a c.args.types.now) c.clear.new.memory a _ front refl))
+          c.clear_places-in-None.ensures c.clear_numbers.ensures;
+      held = tt;
+      nodes = tt;
+    }

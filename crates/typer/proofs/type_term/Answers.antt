@@ -9,7 +9,7 @@ use Rattle.typer.proofs.type_term.Goals as goal
 pub returns-in_err-records : goal.returns-in_err-records
 returns-in_err-records g c =
     let p = err_from_is_err_and c.from_residual.result c.from_residual.ensures.1 in
-    rw (p.1, p.2) (unserved c.in_err-records.ensures refl refl)
+    rw (p.1, p.2) (record { answer = unserved c.in_err-records.ensures refl refl; served = tt })
 
 pub returns-in-Some : goal.returns-in-Some
 returns-in-Some g c =
@@ -18,9 +18,13 @@ returns-in-Some g c =
     let sub = c.list_nodes-found.new.memory in
     let served : a ≤ length c.args.types.now = omega (arith, q.is, q.serves.records) in
     let front : length sub ≡ a = omega (arith, c.list_nodes-found.auto.memory, length-take-le a c.args.types.now served) in
-    typed _ _ _ (g.E.Source.lawful c.args.entries.now) (g.K.Source.lawful c.args.kept.now) c.list_nodes-found.new.places sub c.clear.new.memory _ _ _
-    (omega (arith, c.list_nodes-found.auto.places)) (omega (arith, q.is)) (omega (arith, q.is, q.serves.few)) c.in-Some.ensures c.clear.ensures
-    (rest_written sub (drop a c.args.types.now) c.clear.new.memory a _ front refl) c.clear_numbers.ensures
+    record {
+      answer =
+          typed _ _ _ (g.E.Source.lawful c.args.entries.now) (g.K.Source.lawful c.args.kept.now) c.list_nodes-found.new.places sub c.clear.new.memory _ _ _
+          (omega (arith, c.list_nodes-found.auto.places)) (omega (arith, q.is)) (omega (arith, q.is, q.serves.few)) c.in-Some.ensures c.clear.ensures
+          (rest_written sub (drop a c.args.types.now) c.clear.new.memory a _ front refl) c.clear_numbers.ensures;
+      served = q.serves;
+    }
 
 pub returns-in-None : goal.returns-in-None
 returns-in-None g c =
@@ -30,6 +34,10 @@ returns-in-None g c =
     let o = c.in-None.ensures in
     let served : a ≤ length c.args.types.now = omega (arith, q.is, q.serves.records) in
     let front : length sub ≡ a = omega (arith, c.list_nodes-found.auto.memory, length-take-le a c.args.types.now served) in
-    no_type q.serves o.none
-    (all_zeros zero_node sub c.clear.new.memory _ o.clear c.clear.ensures (rest_written sub (drop a c.args.types.now) c.clear.new.memory a _ front refl))
-    c.clear_numbers.ensures
+    record {
+      answer =
+          no_type q.serves o.none
+          (all_zeros zero_node sub c.clear.new.memory _ o.clear c.clear.ensures (rest_written sub (drop a c.args.types.now) c.clear.new.memory a _ front refl))
+          c.clear_numbers.ensures;
+      served = tt;
+    }
