@@ -1,7 +1,7 @@
 -- The built-in table has few entries, all of them lawful: one test, computed over the whole table.
 use Rattle.std.specs.Prelude.{ℕ, ◌≤◌, Bool, length}
 use Rattle.std.proofs.Common.{lit≤}
-use Rattle.types.proofs.Tested.{every, at_each, list_passes, passed_lawful}
+use Rattle.types.proofs.Tested.{at_each, list_passes, passed_lawful}
 use Rattle.catalogue.specs.Entries.{Entry, no_entry, list_of, AllLawful}
 use Rattle.catalogue.specs.Table.{builtin}
 

@@ -1,15 +1,15 @@
 -- What the reader has covered, one atom after the other.
-use Rattle.std.proofs.Common.{◌≡◌, ℕ, ◌+◌, ◌-◌, ◌*◌, ◌<◌, ◌≤◌, ◌⊎◌, List, [], ◌∷◌, ◌++◌, map, reverse, length, take, drop, set, Option, sym, refl, ap, ◌∙◌, subst, inl, inr, arith, Bor, MutBor}
+use Rattle.std.proofs.Common.{◌≡◌, ℕ, ◌+◌, ◌<◌, ◌≤◌, ◌⊎◌, List, [], ◌∷◌, ◌++◌, map, reverse, length, take, drop, set, Option, sym, refl, ap, ◌∙◌, subst, inl, inr, arith, Bor}
 use Rattle.std.proofs.str.Laws.{order}
 use Rattle.std.specs.List.{between}
-use Rattle.std.proofs.lemmas.List.{take_more_set, reverse-append, take-take, take-set, length-map, take_all}
+use Rattle.std.proofs.lemmas.List.{take_more_set, reverse-append, take-take, take-set, length-map}
 use Rattle.catalogue.specs.Names.{Name}
 use Rattle.catalogue.specs.Entries.{Entry}
 use Rattle.grammar.specs.Grammar.{Kind, expression, application, atom}
 use Rattle.term.specs.declared.TermNode.{TermNode}
 use Rattle.term.specs.Terms.{node}
-use Rattle.text.specs.Tokens.{Token, opening, closing, Rest}
-use Rattle.formula.specs.Parsing.{scope_of, Reads, HeadRead, FirstOf, Made, Advance, Covered, Ended, Ends}
+use Rattle.text.specs.Tokens.{Token, opening, closing}
+use Rattle.formula.specs.Parsing.{scope_of, Reads, HeadRead, FirstOf, Made, Covered, Ended}
 use Rattle.formula.specs.declared.expected.Head.{Head}
 use Rattle.formula.specs.declared.parser.Reach.{Reach}
 use Rattle.formula.proofs.Steps.{made_group, made_application, made_expression, made_more, made_abstraction}

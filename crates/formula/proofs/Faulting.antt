@@ -1,16 +1,16 @@
 -- Where the reader finds a fault, the machine halts.
-use Rattle.std.proofs.Common.{◌≡◌, ℕ, ◌+◌, ◌<◌, ◌≤◌, List, [], ◌∷◌, ◌++◌, length, sym, refl, ap, ◌∙◌, subst, append-nil}
+use Rattle.std.proofs.Common.{◌≡◌, ℕ, List, [], ◌∷◌, ◌++◌, length, sym, refl, ◌∙◌, subst}
 use Rattle.catalogue.specs.Names.{Name}
 use Rattle.catalogue.specs.Entries.{Entry}
-use Rattle.grammar.specs.Grammar.{Tree, Kind, expression, application, atom}
-use Rattle.grammar.specs.Machine.{Frames, top, body, first, next, State, start, after, dead, takes, step, finish, result, none, Halts}
-use Rattle.grammar.proofs.Walks.{takes-++, walks}
-use Rattle.grammar.proofs.Halting.{halts_here, halts_end, halts_later}
+use Rattle.grammar.specs.Grammar.{Tree, expression, application}
+use Rattle.grammar.specs.Machine.{Frames, body, first, next, State, start, after, takes, finish, none, Halts}
+use Rattle.grammar.proofs.Walks.{walks}
+use Rattle.grammar.proofs.Halting.{halts_end, halts_later}
 use Rattle.term.specs.declared.TermNode.{TermNode}
-use Rattle.text.specs.Tokens.{Token, token, lambda, dot, opening, closing, name, Rest}
+use Rattle.text.specs.Tokens.{Token, token, lambda, dot, opening, name, Rest}
 use Rattle.text.specs.declared.fault.TextFault.{TextFault}
 use Rattle.text.specs.declared.fault.TextFault.TheVariants.{Stray, Misplaced}
-use Rattle.formula.specs.Parsing.{Blames, Reads, HeadRead, Made, Ends, GoesOn, BlamesExpression, BlamesApplication, BlamesNext}
+use Rattle.formula.specs.Parsing.{Blames, Reads, HeadRead, Made, GoesOn, BlamesExpression, BlamesApplication, BlamesNext}
 use Rattle.formula.specs.declared.expected.Head.{Head}
 use Rattle.formula.specs.declared.parser.Reach.{Reach}
 use Rattle.formula.proofs.Tokens.{blames_later}

@@ -1,6 +1,6 @@
 -- The names of the binders in scope, as they stand in a memory.
-use Rattle.std.proofs.Common.{◌≡◌, ℕ, ◌+◌, ◌-◌, ◌<◌, ◌≤◌, List, [], ◌∷◌, ◌++◌, map, reverse, length, get_or, take, set, sym, refl, ap, ◌∙◌, subst, arith, Bor}
-use Rattle.std.proofs.lemmas.List.{take_more_set, reverse-append, get_or-reverse, length-reverse, get_or-take, length-take-le, take-take, take-set, length-map, get_or-map}
+use Rattle.std.proofs.Common.{◌≡◌, ℕ, ◌-◌, ◌<◌, ◌≤◌, List, [], map, length, get_or, take, sym, ap, ◌∙◌, subst, arith, Bor}
+use Rattle.std.proofs.lemmas.List.{get_or-reverse, length-reverse, get_or-take, length-take-le, length-map, get_or-map}
 use Rattle.catalogue.specs.Names.{Name, Same}
 use Rattle.formula.specs.Names.{Bound}
 use Rattle.formula.specs.Parsing.{scope_of}

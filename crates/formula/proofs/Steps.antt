@@ -1,10 +1,10 @@
 -- What each step of the reader makes of the parts that it has read.
-use Rattle.std.proofs.Common.{◌≡◌, ℕ, ◌+◌, ◌-◌, ◌*◌, ◌<◌, ◌≤◌, ◌⊎◌, List, [], ◌∷◌, ◌++◌, length, take, drop, set, Some, None, Ok, Option, sym, refl, ap, ◌∙◌, subst, inl, inr, append_assoc, append-nil, arith, length-append, Bor}
+use Rattle.std.proofs.Common.{◌≡◌, ℕ, ◌+◌, ◌-◌, ◌<◌, ◌≤◌, List, [], ◌∷◌, ◌++◌, length, take, drop, set, Some, None, Ok, Option, sym, refl, ap, ◌∙◌, subst, inl, inr, append_assoc, arith, length-append, Bor}
 use lib.Seq.{paste}
-use Rattle.std.specs.List.{between, AllByRecursion as All}
+use Rattle.std.specs.List.{between}
 use Rattle.catalogue.specs.Names.{Name}
 use Rattle.catalogue.specs.Entries.{Entry}
-use Rattle.grammar.specs.Grammar.{Tree, named, referred, abstracted, applied, nodes, Kind, expression, application, atom, Is, of_lambda, of_application, of_atom, of_atoms, of_name, of_reference, of_brackets}
+use Rattle.grammar.specs.Grammar.{Tree, named, referred, abstracted, applied, nodes, expression, application, atom, of_lambda, of_application, of_atom, of_atoms, of_name, of_reference, of_brackets}
 use Rattle.term.specs.declared.TermNode.{TermNode}
 use Rattle.term.specs.Terms.{Term, abstraction, reference, prefix, node}
 use Rattle.term.specs.Terms as terms
@@ -15,7 +15,7 @@ use Rattle.text.specs.declared.token.Lexeme.{Lexeme}
 use Rattle.text.specs.declared.token.Token.TheVariants as cut
 use Rattle.text.proofs.Ahead.{rest_some}
 use Rattle.formula.specs.Firsts.{Fails}
-use Rattle.formula.specs.Names.{Resolves, bound, entered, refers, binds, applies, Use, uses, Known, Reference, references, Filed}
+use Rattle.formula.specs.Names.{Resolves, bound, entered, refers, binds, applies, uses, Known, references, Filed}
 use Rattle.formula.specs.Parsing.{Reads, HeadRead, FirstOf, Settled, Unfiled, Made}
 use Rattle.formula.specs.declared.expected.Head.{Head}
 use Rattle.formula.specs.declared.parser.Reach.{Reach}

@@ -1,13 +1,13 @@
 -- What the reader sees of the next token, in the words of the tokens that are left.
-use Rattle.std.proofs.Common.{◌≡◌, ℕ, ◌+◌, ◌<◌, ◌≤◌, Bool, true, false, List, [], ◌∷◌, ◌++◌, length, Some, None, Ok, Err, Option, sym, refl, ap, ◌∙◌, subst, arith, Bor}
-use Rattle.text.specs.Tokens.{Sign, Token, token, lambda, dot, opening, closing, name, reference, Rest}
+use Rattle.std.proofs.Common.{◌≡◌, ℕ, List, [], ◌∷◌, length, Some, None, Ok, Option, sym, ap, ◌∙◌, subst, arith, Bor}
+use Rattle.text.specs.Tokens.{Sign, Token, token, lambda, dot, closing, name, Rest}
 use Rattle.text.specs.Lexing.{Next, sign_of}
 use Rattle.text.specs.declared.token.Lexeme.{Lexeme}
 use Rattle.text.specs.declared.token.Token.TheVariants as cut
 use Rattle.text.specs.declared.fault.TextFault.{TextFault}
 use Rattle.text.specs.declared.fault.TextFault.TheVariants.{Stray, Misplaced}
-use Rattle.text.proofs.Ahead.{rest_none, rest_some, rest_refused, next_advances}
-use Rattle.grammar.specs.Machine.{Frames, State, start, binder, before_dot, after, dead, step, result, none, Live, Halts}
+use Rattle.text.proofs.Ahead.{rest_none, rest_some, next_advances}
+use Rattle.grammar.specs.Machine.{State, dead, step, result, none, Live, Halts}
 use Rattle.grammar.proofs.Halting.{halts_here, halts_end, halts_later}
 use Rattle.formula.specs.Parsing.{Reads, BinderRead, HeadRead, Ends, GoesOn, NoLambda, Blames}
 use Rattle.formula.specs.declared.expected.Head.{Head}

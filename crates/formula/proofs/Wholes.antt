@@ -1,29 +1,27 @@
 -- The whole text: what was read of it, and why it is refused.
-use Rattle.std.proofs.Common.{◌≡◌, ℕ, ◌+◌, ◌-◌, ◌<◌, ◌≤◌, ◌⊎◌, List, [], ◌∷◌, ◌++◌, length, get_or, take, drop, replicate, Some, None, Ok, Err, Option, sym, refl, ap, ◌∙◌, subst, ⊎_elim, append-nil, arith, Bor}
-use lib.Seq.{paste}
+use Rattle.std.proofs.Common.{◌≡◌, ℕ, ◌+◌, ◌-◌, ◌<◌, ◌≤◌, List, [], ◌∷◌, ◌++◌, length, take, drop, replicate, Some, None, Ok, Option, sym, refl, ap, ◌∙◌, subst, ⊎_elim, append-nil, arith, Bor}
 use Rattle.std.proofs.lemmas.List.{take_at}
 use Rattle.std.proofs.lemmas.List.Edits.{paste_all}
 use Rattle.std.proofs.str.Laws.{order}
 use Rattle.std.specs.List.{AllByRecursion as All}
 use Rattle.catalogue.specs.Names.{Name}
 use Rattle.catalogue.specs.Entries.{Entry, Least}
-use Rattle.grammar.specs.Grammar.{Tree, nodes, Is, expression, FirstBad}
-use Rattle.grammar.specs.Machine.{top, start, after, close, takes, step, dead, Halts}
+use Rattle.grammar.specs.Grammar.{Tree, nodes, Is, expression}
+use Rattle.grammar.specs.Machine.{top, start, after, step, Halts}
 use Rattle.grammar.proofs.Walks.{walks, unambiguous}
 use Rattle.grammar.proofs.Halting.{first_bad, halts_here, halts_later}
-use Rattle.refusal.specs.declared.Refusal.{Refusal}
 use Rattle.term.specs.declared.TermNode.{TermNode}
 use Rattle.term.specs.Terms.{Term, variable, abstraction, application, primitive, prefix, zero_node}
-use Rattle.text.specs.Tokens.{Token, token, closing, Rest, Tokens}
-use Rattle.text.specs.Lexing.{Next, AllTokens, NotAllTokens, Scanned, sign_of}
+use Rattle.text.specs.Tokens.{token, closing}
+use Rattle.text.specs.Lexing.{Next, AllTokens, sign_of}
 use Rattle.text.specs.declared.token.Lexeme.{Lexeme}
 use Rattle.text.specs.declared.fault.TextFault.{TextFault}
 use Rattle.text.specs.declared.fault.TextFault.TheVariants as text_fault
-use Rattle.text.proofs.Ahead.{rest_none, rest_some, rest_refused, one_reading}
-use Rattle.formula.specs.Firsts.{Fails, FirstNot}
+use Rattle.text.proofs.Ahead.{rest_none, rest_some, one_reading}
+use Rattle.formula.specs.Firsts.{Fails}
 use Rattle.formula.specs.Names.{Bound, Resolves, bound, entered, refers, binds, applies, uses, Known, references, Filed}
-use Rattle.formula.specs.Parsing.{scope_of, Made, Covered, Ended, Ends, BlamesExpression, Parsed, NotParsed, Drafted}
-use Rattle.formula.specs.Reading.{Parses, Formula, Accepted, Refuses, no_tokens, no_expression, too_many_nodes, no_room, unknown, not_filed}
+use Rattle.formula.specs.Parsing.{Ended, BlamesExpression, Parsed, NotParsed, Drafted}
+use Rattle.formula.specs.Reading.{Parses, Accepted, Refuses, no_tokens, no_expression, too_many_nodes, no_room, unknown, not_filed}
 use Rattle.formula.specs.Faults.{says}
 use Rattle.formula.specs.declared.fault.FormulaFault.TheVariants as fault
 use Rattle.formula.specs.declared.parser.Reach.{Reach}

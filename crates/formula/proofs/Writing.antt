@@ -1,5 +1,5 @@
 -- Nodes written into a memory one part after the other, and moved up by one for an application.
-use Rattle.std.proofs.Common.{◌≡◌, ℕ, ◌+◌, ◌-◌, ◌<◌, ◌≤◌, List, [], ◌∷◌, ◌++◌, length, get_or, take, drop, set, sym, refl, ap, ◌∙◌, append_assoc, add-one, arith}
+use Rattle.std.proofs.Common.{◌≡◌, ℕ, ◌+◌, ◌<◌, ◌≤◌, List, [], ◌∷◌, ◌++◌, length, get_or, take, drop, set, sym, refl, ap, ◌∙◌, append_assoc, add-one, arith}
 use lib.Seq.{paste}
 use Rattle.std.proofs.lemmas.List.{take_more, take_at, drop_at, set_at, set_split, drop-drop, length-take-le}
 use Rattle.std.proofs.lemmas.List.Edits.{paste_all, paste-paste, drop-paste}

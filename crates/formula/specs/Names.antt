@@ -1,5 +1,5 @@
 -- What the names and references of a formula mean.
-use Rattle.std.specs.Prelude.{◌≡◌, ℕ, ◌<◌, ◌⊎◌, List, [], ◌∷◌, ◌++◌, length, Some, slice_index_or}
+use Rattle.std.specs.Prelude.{ℕ, ◌<◌, ◌⊎◌, List, [], ◌∷◌, ◌++◌, length, Some, slice_index_or}
 use Rattle.catalogue.specs.Names.{Name, Same}
 use Rattle.catalogue.specs.Entries.{Entry, Bears, Least}
 use Rattle.grammar.specs.Grammar.{Tree, named, referred, abstracted, applied}

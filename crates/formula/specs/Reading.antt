@@ -11,7 +11,7 @@ use Rattle.term.specs.Terms.{Term, prefix, zero_node}
 use Rattle.text.specs.Tokens.{Token, Tokens}
 use Rattle.text.specs.Lexing.{NotAllTokens}
 use Rattle.formula.specs.Firsts.{FirstNot}
-use Rattle.formula.specs.Names.{Resolves, Use, uses, Known, Reference, references, Filed}
+use Rattle.formula.specs.Names.{Resolves, uses, Known, references, Filed}
 
 -- the text's tokens form an expression with this tree
 pub record Parses (text : List ℕ) (t : Tree) : Type 0 where

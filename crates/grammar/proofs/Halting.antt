@@ -4,9 +4,9 @@ use mathlib.Core.List.{List, [], ◌∷◌, ◌++◌, append-nil, append_assoc}
 use Prim.Native.Nat.{ℕ}
 use native.Mathlib.Omega.{arith}
 use Rattle.text.specs.Tokens.{Sign, Token, token, lambda, dot, opening, closing, name, reference}
-use Rattle.grammar.specs.Grammar.{Tree, named, referred, abstracted, applied, Kind, expression, application, atom, Is, of_lambda, of_application, of_atom, of_atoms, of_name, of_reference, of_brackets, Expression, CanContinue, FirstBad, place}
-use Rattle.grammar.specs.Machine.{Frames, top, body, first, next, State, start, binder, before_dot, after, dead, close, step, takes, Done, none, done, finish, result, Live, Halts}
-use Rattle.grammar.proofs.Walks.{takes-++, takes_dead, accepts, walks}
+use Rattle.grammar.specs.Grammar.{Tree, named, abstracted, applied, expression, application, Is, of_lambda, of_application, of_atom, of_atoms, of_name, of_reference, of_brackets, CanContinue, FirstBad}
+use Rattle.grammar.specs.Machine.{Frames, top, body, first, next, State, start, binder, before_dot, after, dead, close, step, takes, Done, none, done, result, Live, Halts}
+use Rattle.grammar.proofs.Walks.{takes-++, takes_dead, accepts}
 
 -- what stands to the left of the place, by the frames
 abbrev Fit : Frames → List Token → Type 0

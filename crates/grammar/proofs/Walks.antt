@@ -1,11 +1,10 @@
 -- The machine reads what the grammar has: each derivation drives it, so tokens have one tree at most.
-use mathlib.Core.Path.{◌≡◌, refl, sym, ap, subst, ◌∙◌}
-use mathlib.Core.List.{List, [], ◌∷◌, ◌++◌, append-nil, append_assoc}
+use mathlib.Core.Path.{◌≡◌, refl, ap, ◌∙◌}
+use mathlib.Core.List.{List, [], ◌∷◌, ◌++◌}
 use Prim.Native.Nat.{ℕ}
-use native.Mathlib.Omega.{arith}
-use Rattle.text.specs.Tokens.{Token, token, lambda, dot, opening, closing, name, reference}
-use Rattle.grammar.specs.Grammar.{Tree, named, referred, abstracted, applied, Kind, expression, application, atom, Is, of_lambda, of_application, of_atom, of_atoms, of_name, of_reference, of_brackets, Unambiguous}
-use Rattle.grammar.specs.Machine.{Frames, top, body, first, next, State, start, binder, before_dot, after, dead, close, step, takes, Done, none, done, finish, result}
+use Rattle.text.specs.Tokens.{Token, token, closing}
+use Rattle.grammar.specs.Grammar.{Tree, applied, Kind, expression, application, atom, Is, of_lambda, of_application, of_atom, of_atoms, of_name, of_reference, of_brackets, Unambiguous}
+use Rattle.grammar.specs.Machine.{Frames, top, body, first, next, State, start, after, dead, close, step, takes, Done, done, finish, result}
 
 pub takes-++ : (q : State) (xs ys : List Token) → takes q (xs ++ ys) ≡ takes (takes q xs) ys
 takes-++ q [] ys = refl

@@ -1,11 +1,11 @@
 -- From one place of a text there is one reading: a reading to the end goes on from wherever another has come.
-use Rattle.std.proofs.Common.{◌≡◌, ℕ, suc, ◌+◌, ◌<◌, ◌≤◌, Bool, true, false, cond, eqb, List, [], ◌∷◌, ◌++◌, length, take, drop, Some, None, Ok, Err, Option, sym, refl, ap, ◌∙◌, subst, append-nil, arith, length-take}
+use Rattle.std.proofs.Common.{◌≡◌, ℕ, suc, ◌<◌, ◌≤◌, false, cond, eqb, List, [], ◌∷◌, ◌++◌, length, drop, Some, None, Ok, Err, Option, sym, refl, ap, ◌∙◌, subst, append-nil, arith, length-take}
 use borrow.Author.Tests.{eqb-false}
 use Rattle.text.specs.declared.token.Lexeme.{Lexeme}
 use Rattle.text.specs.Bytes.{class_of, in_name}
-use Rattle.text.specs.Words.{lead, run, IsName, IsNumber, numeral}
-use Rattle.text.specs.Tokens.{Sign, Token, token, name, reference, single, Scans, here, space, mark, word, number, Tokens, Rest, Stray, other, no_name, no_number}
-use Rattle.text.specs.Lexing.{Next, Found, AllTokens, NotAllTokens, Scanned, sign_of}
+use Rattle.text.specs.Words.{lead, run, IsName, IsNumber}
+use Rattle.text.specs.Tokens.{Sign, Token, token, reference, single, Scans, here, space, mark, word, number, Tokens, Rest, Stray, other, no_name, no_number}
+use Rattle.text.specs.Lexing.{Next, AllTokens, Scanned, sign_of}
 use Rattle.text.specs.declared.fault.TextFault.{TextFault}
 use Rattle.text.specs.declared.fault.TextFault.TheVariants as fault
 use Rattle.text.specs.declared.bytes.Class.{Class}

@@ -1,10 +1,9 @@
 -- What the class of a byte tells of the byte.
-use Rattle.std.proofs.Common.{◌≡◌, ℕ, ◌<◌, ◌≤◌, Bool, true, false, cond, ◌&&◌, ◌||◌, eqb, leb, Some, None, sym, refl, ap, ◌∙◌, arith}
+use Rattle.std.proofs.Common.{◌≡◌, ℕ, ◌≤◌, Some, None, arith}
 use Rattle.std.proofs.lemmas.Bool.Decides.{nat_tests}
-use Rattle.text.specs.Bytes.{class_of, in_name}
+use Rattle.text.specs.Bytes.{class_of}
 use Rattle.text.specs.Tokens.{Sign, single}
-use Rattle.text.specs.declared.bytes.Class.{Class}
-use Rattle.text.specs.declared.bytes.Class.TheVariants.{Other, Letter, Digit, Underscore, Space, Mark}
+use Rattle.text.specs.declared.bytes.Class.TheVariants.{Digit, Mark}
 
 pub digit_range : (b : ℕ) → class_of b ≡ Digit → (48 ≤ b) × (b ≤ 57)
 unfolding class_of

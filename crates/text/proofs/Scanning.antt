@@ -1,16 +1,12 @@
 -- Laws of reading a text as tokens: readings join, and from one place there is only one.
-use Rattle.std.proofs.Common.{◌≡◌, ℕ, suc, ◌+◌, ◌-◌, ◌<◌, ◌≤◌, Bool, true, false, cond, List, [], ◌∷◌, ◌++◌, length, get_or, take, drop, Some, None, Ok, Err, Option, sym, refl, ap, ◌∙◌, subst, arith}
+use Rattle.std.proofs.Common.{◌≡◌, ℕ, suc, ◌+◌, ◌-◌, ◌<◌, true, false, cond, List, [], ◌∷◌, ◌++◌, length, get_or, take, drop, Some, sym, ap, ◌∙◌, subst, arith}
 use Rattle.std.proofs.lemmas.List.{drop_more, drop-drop, drop_all}
 use Rattle.text.specs.Bytes.{class_of, in_name}
 use Rattle.text.specs.Words.{lead, run, IsName, IsNumber}
 use Rattle.text.specs.Tokens.{Sign, Token, token, name, reference, single, Scans, here, space, mark, word, number, Stray, other, no_name, no_number}
-use Rattle.text.specs.declared.bytes.Class.{Class}
-use Rattle.text.specs.declared.bytes.Class.TheVariants.{Other, Letter, Digit, Underscore, Space, Mark}
-use Rattle.text.specs.Lexing.{Passed, Found, Next, Scanned}
-use Rattle.text.specs.declared.fault.TextFault.{TextFault}
-use Rattle.text.specs.declared.fault.TextFault.TheVariants as fault
+use Rattle.text.specs.declared.bytes.Class.TheVariants.{Other}
+use Rattle.text.specs.Lexing.{Passed, Found}
 use Rattle.text.specs.declared.token.Lexeme.{Lexeme}
-use Rattle.text.proofs.ByteFacts.{single_mark}
 
 pub join : {o p q : ℕ} {bs cs ds : List ℕ} {us vs : List Token} → Scans o bs us p cs → Scans p cs vs q ds → Scans o bs (us ++ vs) q ds
 join here s = s

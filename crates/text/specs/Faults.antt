@@ -1,5 +1,4 @@
 -- The number, layer and place of each fault of a text.
-use Rattle.std.specs.Prelude.{ℕ}
 use Rattle.refusal.specs.Saying.{saying}
 use Rattle.refusal.specs.declared.Layer.TheVariants as layer
 use Rattle.refusal.specs.declared.Refusal.{Refusal}

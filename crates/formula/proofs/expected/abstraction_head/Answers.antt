@@ -1,10 +1,10 @@
-use Rattle.std.proofs.Common.{◌≡◌, ◌≤◌, length, sym, refl, ap, ◌∙◌, subst, arith}
+use Rattle.std.proofs.Common.{refl, ap}
 use Rattle.std.proofs.lemmas.Result.{err_from_is_err_and}
 use Rattle.text.specs.Lexing.{sign_of}
 use Rattle.text.proofs.Ahead.{rest_refused}
 use Rattle.formula.proofs.Signs.{lambda_is}
 use Rattle.formula.proofs.Tokens.{reads_sign, blames_later, head_read, no_lambda, no_lambda_at_end}
-use Rattle.grammar.specs.Machine.{start, binder}
+use Rattle.grammar.specs.Machine.{start}
 use Rattle.formula.proofs.expected.abstraction_head.Goals as goal
 
 pub returns-in_err-found : goal.returns-in_err-found

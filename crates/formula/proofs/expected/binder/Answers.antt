@@ -1,10 +1,10 @@
-use Rattle.std.proofs.Common.{◌≡◌, ◌≤◌, length, sym, refl, ap, ◌∙◌, subst, arith}
+use Rattle.std.proofs.Common.{refl, ap}
 use Rattle.std.proofs.lemmas.Result.{err_from_is_err_and}
 use Rattle.text.specs.Lexing.{sign_of}
 use Rattle.text.proofs.Ahead.{rest_refused}
 use Rattle.formula.proofs.Signs.{binder_stuck}
 use Rattle.formula.proofs.Tokens.{reads_sign, blames_here, blames_end, blames_later, binder_read}
-use Rattle.grammar.specs.Machine.{binder, before_dot}
+use Rattle.grammar.specs.Machine.{binder}
 use Rattle.formula.proofs.expected.binder.Goals as goal
 
 pub returns-in_err-found : goal.returns-in_err-found

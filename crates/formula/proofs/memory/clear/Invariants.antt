@@ -1,4 +1,4 @@
-use Rattle.std.proofs.Common.{◌≡◌, ◌-◌, ◌≤◌, length, replicate}
+use Rattle.std.proofs.Common.{◌≡◌, ◌-◌, replicate}
 use lib.Seq.{paste}
 use Rattle.term.specs.Terms.{zero_node}
 use Rattle.formula.proofs.memory.clear.Given as goal

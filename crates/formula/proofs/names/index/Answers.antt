@@ -1,4 +1,4 @@
-use Rattle.std.proofs.Common.{◌≡◌, ℕ, sym, refl, ◌∙◌, subst, arith, below_more}
+use Rattle.std.proofs.Common.{◌≡◌, ℕ, refl, subst, arith, below_more}
 use Rattle.catalogue.specs.Names.{Same}
 use Rattle.formula.proofs.Scopes.{scope_at, bound_within, bound_at}
 use Rattle.formula.proofs.names.index.Goals as goal

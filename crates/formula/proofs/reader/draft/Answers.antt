@@ -1,4 +1,4 @@
-use Rattle.std.proofs.Common.{◌≡◌, refl, arith}
+use Rattle.std.proofs.Common.{arith}
 use Rattle.std.proofs.lemmas.Result.{err_from_is_err_and}
 use Rattle.formula.proofs.Wholes.{refused_text, refused_count, refused_room, refused_name, refused_reference, drafted}
 use Rattle.formula.proofs.reader.draft.Goals as goal

@@ -1,4 +1,4 @@
-use Rattle.std.proofs.Common.{◌≡◌, length, ap, arith, lit≤}
+use Rattle.std.proofs.Common.{length, ap, arith, lit≤}
 use Rattle.formula.proofs.reader.parse.Goals as goal
 
 pub whole-reply-requires : goal.whole-reply-requires

@@ -1,8 +1,8 @@
-use Rattle.std.proofs.Common.{◌≡◌, ℕ, ◌<◌, ◌≤◌, false, cond, ◌&&◌, eqb, ltb, leb, List, set, refl, ◌∙◌, arith, lit<}
-use lib.ListN.{get_or-replicate, length-replicate}
+use Rattle.std.proofs.Common.{◌≡◌, ℕ, false, cond, eqb, List, set, refl, ◌∙◌, arith, lit<}
+use lib.ListN.{get_or-replicate}
 use Rattle.std.proofs.lemmas.Bool.Decides.{nat_tests}
 use Rattle.text.proofs.Overwrites.{Holds, overwrite, holds_like, range_more}
-use Rattle.text.specs.Bytes.{is_letter, is_digit, is_mark, class_of}
+use Rattle.text.specs.Bytes.{is_letter, is_digit, class_of}
 use Rattle.text.specs.declared.bytes.Class.{Class}
 use Rattle.text.specs.declared.bytes.Class.TheVariants.{Other, Letter, Digit, Underscore, Space, Mark}
 use Rattle.text.proofs.bytes.classes.Goals as goal

@@ -1,5 +1,4 @@
-use Rattle.std.proofs.Common.{◌≡◌, ℕ, ◌<◌, drop, refl, arith}
-use Rattle.text.specs.Words.{lead}
+use Rattle.std.proofs.Common.{◌≡◌, ℕ, refl, arith}
 use Rattle.text.proofs.Scanning.{scans_name, stray_name, lead_some}
 use Rattle.text.proofs.lexer.name_at.Goals as goal
 

@@ -1,11 +1,10 @@
-use Rattle.std.proofs.Common.{◌≡◌, ℕ, ◌+◌, ◌-◌, ◌*◌, ◌<◌, ◌≤◌, Ok, sym, refl, ap, ◌∙◌, subst, arith}
+use Rattle.std.proofs.Common.{Ok, refl, ap, subst, arith}
 use Rattle.std.proofs.lemmas.Result.{err_from_is_err_and, MatchResult-weaker}
 use Rattle.text.specs.Lexing.{sign_of}
-use Rattle.text.specs.Tokens.{opening}
 use Rattle.text.proofs.Ahead.{rest_refused, next_advances}
 use Rattle.grammar.specs.Machine.{start, after}
 use Rattle.formula.specs.Parsing.{Follows, Headed}
-use Rattle.formula.proofs.Signs.{closing_is, lambda_is, start_stuck, after_stuck}
+use Rattle.formula.proofs.Signs.{start_stuck, after_stuck}
 use Rattle.formula.proofs.Tokens.{reads_sign, blames_here, blames_end, not_lambda, not_close, not_none}
 use Rattle.formula.proofs.Steps.{made_name, made_reference}
 use Rattle.formula.proofs.Faulting.{blames_body, blames_more, blames_inside, blames_open}

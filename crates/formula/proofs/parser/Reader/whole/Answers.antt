@@ -1,4 +1,4 @@
-use Rattle.std.proofs.Common.{◌≡◌, refl, zero-le, arith}
+use Rattle.std.proofs.Common.{zero-le, arith}
 use Rattle.std.proofs.lemmas.Result.{err_from_is_err_and}
 use Rattle.text.proofs.Ahead.{rest_refused}
 use Rattle.formula.proofs.Wholes.{not_parsed, parsed, over_closed}

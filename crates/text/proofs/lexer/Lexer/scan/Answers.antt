@@ -1,4 +1,4 @@
-use Rattle.std.proofs.Common.{[], ◌∷◌, ◌++◌, Ok, subst, zero-le}
+use Rattle.std.proofs.Common.{[], ◌++◌, Ok, subst, zero-le}
 use Rattle.std.proofs.lemmas.Result.{err_from_is_err_and}
 use Rattle.text.specs.Lexing.{Next}
 use Rattle.text.specs.Tokens.{here}
