@@ -1,5 +1,5 @@
 -- The short layout can be read, and the file of two zero bytes is accepted and means no entries.
-use Rattle.std.proofs.Common.{◌≡◌, ℕ, ◌≤◌, List, [], ◌∷◌, refl, not-suc-le-zero, lit≤}
+use Rattle.std.proofs.Common.{◌≡◌, ℕ, List, [], ◌∷◌, refl, not-suc-le-zero, lit≤}
 use Rattle.catalogue_file.specs.Layouts.{Fit, short, pair_place}
 use Rattle.catalogue_file.specs.Files.{field, entries_of}
 use Rattle.catalogue_file.specs.Checking.{Sound}
