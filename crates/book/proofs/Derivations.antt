@@ -16,7 +16,7 @@ use Rattle.theory.specs.Principal.{none, KeptRow}
 use Rattle.theory.proofs.Expansions.{below_more}
 use Rattle.theory.proofs.Kept.{types_of_expansions}
 use Rattle.typer.specs.Answers.{NoTypes}
-use Rattle.typer.specs.Derivations.{Holds, Roomless, Derived, Underived}
+use Rattle.typer.specs.Derivations.{Holds, Roomless, Derived, DerivedNodes, Underived}
 use Rattle.typer.specs.Derivations as typer
 use Rattle.table.specs.Rows as table
 use Rattle.table.specs.View.{View, kept_row}
@@ -61,12 +61,12 @@ module _ (es : List Entry) (v : View) (n : ℕ) where
     derive_fails types types' places places' numbers numbers' (typer.no_type q nothing e f g) l s =
         absurd (row_typed es l s.kept n (omega (arith, count_is v l s.shows)) (over_ledger l s (NoTypes (entered es)) nothing))
 
-    pub derive_answers : (types places numbers : ℕ) (types' : List TypeNode) (places' numbers' : List ℕ) (m : ℕ) → Holds (need (entered es) (kept_lists v) ts) (length ts) types places numbers → Derived (entered es) (kept_lists v) ts types' places' numbers' m → Answers es v (calls.derive n types places numbers) (calls.derived m) v
+    pub derive_answers : (types places numbers : ℕ) (types' : List TypeNode) (places' numbers' : List ℕ) (m : ℕ) → Holds (need (entered es) (kept_lists v) ts) (length ts) types places numbers → DerivedNodes (entered es) (kept_lists v) ts types' places' numbers' m → Answers es v (calls.derive n types places numbers) (calls.derived m) v
     derive_answers types places numbers types' places' numbers' m room d l s =
         let t : Term = (row_at l.rows n).term in
-        let e = over_ledger l s (λ K us. Derived (entered es) K us types' places' numbers' m) d in
+        let e = over_ledger l s (λ K us. DerivedNodes (entered es) K us types' places' numbers' m) d in
         looked es v l s (is_derived (omega (arith, count_is v l s.shows)) (over_ledger l s (λ K us. Holds (need (entered es) K us) (length us) types places numbers) room)
-        (record { nodes = e.nodes; long = e.long; principal = e.typing t refl; count = e.count }))
+        (record { nodes = e.derived.nodes; long = e.derived.long; principal = e.typing t refl; count = e.derived.count }))
 
     -- of the row's own nodes
     pub row_derived : (types' : List TypeNode) (places' numbers' : List ℕ) (m : ℕ) → Derived (entered es) (kept_lists v) ts types' places' numbers' m → Derived (entered es) (kept_lists v) (kept_row v n).term types' places' numbers' m

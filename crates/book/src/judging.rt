@@ -62,7 +62,7 @@ fn list_type<E: Source>(
     types: &mut [TypeNode],
     numbers: &mut [u32],
 ) -> Result<usize, BookFault>
-    ensures { MatchResult result (λ n. Listed (list entries.now) (kept_lists (view table.now)) (view table.now) term.now (length types.old) (length numbers.old) types.new numbers.new n) (λ f. NotListed (list entries.now) (kept_lists (view table.now)) (view table.now) term.now (length types.old) (length numbers.old) (says f) × (unread f ≡ false)) }
+    ensures { MatchResult result (λ n. Listed (E.list entries.now) (kept_lists (view table.now)) (view table.now) term.now (length types.old) (length numbers.old) types.new numbers.new n) (λ f. NotListed (E.list entries.now) (kept_lists (view table.now)) (view table.now) term.now (length types.old) (length numbers.old) (says f) × (unread f ≡ false)) }
 {
     let _ = ask(entries, table, term, types.len(), numbers.len())?;
     if table.used_terms() as usize + term.len() > MOST_TERM_NODES {

@@ -119,7 +119,7 @@ fn fresh<S: Source>(source: &S, k: u16, i: u16, by: u16, seen: &mut [u32]) -> Ty
     }
 }
 
-// A copy of list `k` behind the `used` records; none of a List without nodes. `seen` is scratch: with room for the
+// A copy of list `k` behind the `used` records; none of a list without nodes. `seen` is scratch: with room for the
 // numbers of the list's variables the work is linear.
 pub fn copy<S: Source>(
     source: &S,

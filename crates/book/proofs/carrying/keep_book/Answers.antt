@@ -20,8 +20,8 @@ dealings-preserved g c =
     let k = c.dealings.auto in
     let lt : i < length c.dealings.answers = omega (arith, k.answers, c.min-count.ensures) in
     let ld : i < length ds = omega (arith, c.min-count.ensures) in
-    ran_more g.C.Catalogue.entries c.new-book.result c.dealings.book c.carry-out.new.self c.args.texts.now _ ds c.dealings.answers i _ dealing.File c.carry-out.result ld lt (get_or_default ds i _ dealing.File ld) c.dealings.invariant
-    (carries_in g.C.Catalogue.entries c.dealings.book c.carry-out.new.self c.args.texts.now _ _ _ c.carry-out.result k.terms k.types k.numbers k.places k.out c.carry-out.ensures)
+    ran_more g.C.Catalogue.entries c.new-book.result c.dealings.book c.carry_out.new.self c.args.texts.now _ ds c.dealings.answers i _ dealing.File c.carry_out.result ld lt (get_or_default ds i _ dealing.File ld) c.dealings.invariant
+    (carries_in g.C.Catalogue.entries c.dealings.book c.carry_out.new.self c.args.texts.now _ _ _ c.carry_out.result k.terms k.types k.numbers k.places k.out c.carry_out.ensures)
 
 pub returns : goal.returns
 returns g c =

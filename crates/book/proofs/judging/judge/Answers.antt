@@ -11,39 +11,39 @@ use Rattle.book.specs.Judging.{Listed, NotListed}
 use Rattle.book.proofs.Judgements.{not_read, keepable, not_listed, found}
 use Rattle.book.proofs.judging.judge.Goals as goal
 
-pub returns-in-err-nodes : goal.returns-in-err-nodes
-returns-in-err-nodes g c =
-    let p = err_from_is_err_and c.from-residual.result c.from-residual.ensures.1 in
+pub returns-in_err-nodes : goal.returns-in_err-nodes
+returns-in_err-nodes g c =
+    let p = err_from_is_err_and c.from_residual.result c.from_residual.ensures.1 in
     let v = view c.args.table.now in
     let es = g.C.Catalogue.entries c.args.catalogue.now in
     let s = submission c.args.text.now c.args.terms.now c.args.types.now c.args.numbers.now in
-    let f = subst (λ (n : ℕ). reading.Refuses es n s.text s.terms (formula_says c.in-err-nodes.field-0.0)) c.count.ensures.rows c.in-err-nodes.ensures.0 in
+    let f = subst (λ (n : ℕ). reading.Refuses es n s.text s.terms (formula_says c.in_err-nodes.field-0.0)) c.count.ensures.rows c.in_err-nodes.ensures.0 in
     rw (p.1, p.2) (record { keeps = refl; ledger = λ l st. not_read es v l st s c.requires f })
 
-pub returns-in-err-records : goal.returns-in-err-records
-returns-in-err-records g c =
-    let p = err_from_is_err_and c.from-residual-in-err-records.result c.from-residual-in-err-records.ensures.1 in
+pub returns-in_err-records : goal.returns-in_err-records
+returns-in_err-records g c =
+    let p = err_from_is_err_and c.from_residual-in_err-records.result c.from_residual-in_err-records.ensures.1 in
     let v = view c.args.table.now in
     let es = g.C.Catalogue.entries c.args.catalogue.now in
     let s = submission c.args.text.now c.args.terms.now c.args.types.now c.args.numbers.now in
-    let n = c.in-ok-nodes.nodes in
-    let a = subst (λ (k : ℕ). Accepted es k s.text c.read.new.memory n) c.count.ensures.rows c.in-ok-nodes.ensures in
+    let n = c.in_ok-nodes.nodes in
+    let a = subst (λ (k : ℕ). Accepted es k s.text c.read.new.memory n) c.count.ensures.rows c.in_ok-nodes.ensures in
     let z : n - 0 ≡ n = omega arith in
-    let r = says c.in-err-records.field-0.0 in
-    let f = subst (λ (k : ℕ). NotListed (entered es) (kept_lists v) v (take k c.read.new.memory) s.types s.numbers r) z c.in-err-records.ensures.0 in
-    rw (p.1, p.2) (record { keeps = c.in-err-records.ensures.1; ledger = λ l st. not_listed es v l st s c.requires c.read.new.memory c.read.auto.memory n a f })
+    let r = says c.in_err-records.field-0.0 in
+    let f = subst (λ (k : ℕ). NotListed (entered es) (kept_lists v) v (take k c.read.new.memory) s.types s.numbers r) z c.in_err-records.ensures.0 in
+    rw (p.1, p.2) (record { keeps = c.in_err-records.ensures.1; ledger = λ l st. not_listed es v l st s c.requires c.read.new.memory c.read.auto.memory n a f })
 
 pub returns : goal.returns
 returns g c =
     let v = view c.args.table.now in
     let es = g.C.Catalogue.entries c.args.catalogue.now in
     let s = submission c.args.text.now c.args.terms.now c.args.types.now c.args.numbers.now in
-    let n = c.in-ok-nodes.nodes in
-    let m = c.in-ok-records.records in
-    let a = subst (λ (k : ℕ). Accepted es k s.text c.read.new.memory n) c.count.ensures.rows c.in-ok-nodes.ensures in
+    let n = c.in_ok-nodes.nodes in
+    let m = c.in_ok-records.records in
+    let a = subst (λ (k : ℕ). Accepted es k s.text c.read.new.memory n) c.count.ensures.rows c.in_ok-nodes.ensures in
     let z : n - 0 ≡ n = omega arith in
-    let d = subst (λ (k : ℕ). Listed (entered es) (kept_lists v) v (take k c.read.new.memory) s.types s.numbers c.list-type-listed.new.types c.list-type-listed.new.numbers m) z c.in-ok-records.ensures in
+    let d = subst (λ (k : ℕ). Listed (entered es) (kept_lists v) v (take k c.read.new.memory) s.types s.numbers c.list_type-listed.new.types c.list_type-listed.new.numbers m) z c.in_ok-records.ensures in
     record {
-      keeps = keepable es (length v.rows) s.text c.read.new.memory n a (kept_lists v) v refl s.types s.numbers c.list-type-listed.new.types c.list-type-listed.new.numbers m c.list-type-listed.auto.types d;
-      ledger = λ l st. found es v l st s c.requires c.read.new.memory c.read.auto.memory n a c.list-type-listed.new.types c.list-type-listed.new.numbers m d;
+      keeps = keepable es (length v.rows) s.text c.read.new.memory n a (kept_lists v) v refl s.types s.numbers c.list_type-listed.new.types c.list_type-listed.new.numbers m c.list_type-listed.auto.types d;
+      ledger = λ l st. found es v l st s c.requires c.read.new.memory c.read.auto.memory n a c.list_type-listed.new.types c.list_type-listed.new.numbers m d;
     }

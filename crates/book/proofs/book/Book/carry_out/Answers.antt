@@ -9,14 +9,14 @@ pub returns-in-Submit : goal.returns-in-Submit
 returns-in-Submit g c =
     let entries = g.C.Catalogue.entries in
     let b = c.args.self.now in
-    let link = subst (λ (t : List ℕ). Link entries b (submit (record { text = t; terms = length c.args.terms.now; types = length c.args.types.now; numbers = length c.args.numbers.now })) (reply_of c.submit-text.result) c.submit-text.new.self) c.part.ensures c.submit-text.ensures in
+    let link = subst (λ (t : List ℕ). Link entries b (submit (record { text = t; terms = length c.args.terms.now; types = length c.args.types.now; numbers = length c.args.numbers.now })) (reply_of c.submit_text.result) c.submit_text.new.self) c.part.ensures c.submit_text.ensures in
     carries entries b _ _ _ c.args.dealing _ _ c.in-Submit.is submits link
 
 pub returns-in-File : goal.returns-in-File
-returns-in-File g c = carries g.C.Catalogue.entries c.args.self.now _ _ _ c.args.dealing _ _ c.in-File.is files c.file-candidate.ensures
+returns-in-File g c = carries g.C.Catalogue.entries c.args.self.now _ _ _ c.args.dealing _ _ c.in-File.is files c.file_candidate.ensures
 
 pub returns-in-Dismiss : goal.returns-in-Dismiss
-returns-in-Dismiss g c = carries g.C.Catalogue.entries c.args.self.now _ _ _ c.args.dealing _ _ c.in-Dismiss.is dismisses c.dismiss-candidate.ensures
+returns-in-Dismiss g c = carries g.C.Catalogue.entries c.args.self.now _ _ _ c.args.dealing _ _ c.in-Dismiss.is dismisses c.dismiss_candidate.ensures
 
 pub returns-in-Ok : goal.returns-in-Ok
 returns-in-Ok g c = carries g.C.Catalogue.entries c.args.self.now _ _ _ c.args.dealing _ _ c.in-Withdraw.is withdraws c.in-Ok.ensures.done.link

@@ -7,24 +7,24 @@ use Rattle.book.proofs.Lines.{line_short, line_none, line_written, line_filed, r
 use Rattle.book.proofs.Whole.{deals}
 use Rattle.book.proofs.book.Book.line.Goals as goal
 
-pub returns-then-out-lt-LINE-ROOM : goal.returns-then-out-lt-LINE-ROOM
-returns-then-out-lt-LINE-ROOM g c =
+pub returns-then-out-lt-LINE_ROOM : goal.returns-then-out-lt-LINE_ROOM
+returns-then-out-lt-LINE_ROOM g c =
     let b = c.args.self.now in
-    record { done = deals g.C.Catalogue.entries g.C.Catalogue.lawful b b _ refl refl (line_short _ (view b.table) _ _ c.if-out-lt-LINE-ROOM.true); text = refl }
+    record { done = deals g.C.Catalogue.entries g.C.Catalogue.lawful b b _ refl refl (line_short _ (view b.table) _ _ c.if-out-lt-LINE_ROOM.true); text = refl }
 
 pub returns-then-number-count : goal.returns-then-number-count
 returns-then-number-count g c =
     let b = c.args.self.now in
-    record { done = deals g.C.Catalogue.entries g.C.Catalogue.lawful b b _ refl refl (line_none _ (view b.table) _ c.args.outcome c.in-Filed.number c.in-Filed.is c.if-out-lt-LINE-ROOM.false (omega (arith, c.count.ensures.rows, c.if-number-count.true))); text = refl }
+    record { done = deals g.C.Catalogue.entries g.C.Catalogue.lawful b b _ refl refl (line_none _ (view b.table) _ c.args.outcome c.in-Filed.number c.in-Filed.is c.if-out-lt-LINE_ROOM.false (omega (arith, c.count.ensures.rows, c.if-number-count.true))); text = refl }
 
-pub write-filed-requires : goal.write-filed-requires
-write-filed-requires g c =
+pub write_filed-requires : goal.write_filed-requires
+write_filed-requires g c =
     let v = view c.args.self.now.table in
     let h : c.in-Filed.number < length (kept v) = omega (arith, c.count.ensures.rows, c.if-number-count.false, length-append v.rows (held v.candidate)) in
     record {
       filed = omega (arith, c.count.ensures.few, c.if-number-count.false);
       lawful = subst Lawful (sym c.list.ensures) (all_proper c.args.self.now.table c.in-Filed.number h).lawful;
-      room = c.if-out-lt-LINE-ROOM.false;
+      room = c.if-out-lt-LINE_ROOM.false;
     }
 
 pub returns-else-number-count : goal.returns-else-number-count
@@ -35,8 +35,8 @@ returns-else-number-count g c =
     let room = length c.args.out.now in
     record {
       done = deals g.C.Catalogue.entries g.C.Catalogue.lawful b b _ refl refl
-          (line_filed es v room c.args.outcome c.in-Filed.number c.in-Filed.is c.if-out-lt-LINE-ROOM.false c.list.result.now c.list.ensures c.args.out.now c.write-filed.new.out c.write-filed.result c.write-filed.ensures (omega (arith, c.count.ensures.rows, c.if-number-count.false)));
-      text = line_written es v room c.args.outcome c.in-Filed.number c.in-Filed.is c.if-out-lt-LINE-ROOM.false c.list.result.now c.list.ensures c.args.out.now c.write-filed.new.out c.write-filed.result c.write-filed.ensures;
+          (line_filed es v room c.args.outcome c.in-Filed.number c.in-Filed.is c.if-out-lt-LINE_ROOM.false c.list.result.now c.list.ensures c.args.out.now c.write_filed.new.out c.write_filed.result c.write_filed.ensures (omega (arith, c.count.ensures.rows, c.if-number-count.false)));
+      text = line_written es v room c.args.outcome c.in-Filed.number c.in-Filed.is c.if-out-lt-LINE_ROOM.false c.list.result.now c.list.ensures c.args.out.now c.write_filed.new.out c.write_filed.result c.write_filed.ensures;
     }
 
 pub returns-in-Refused : goal.returns-in-Refused
@@ -45,8 +45,8 @@ returns-in-Refused g c =
     let v = view b.table in
     let es = g.C.Catalogue.entries b.catalogue in
     let room = length c.args.out.now in
-    let lined = subst (λ r. Lined (refused_line r) c.args.out.now c.write-refused.new.out c.write-refused.result) c.refusal.ensures c.write-refused.ensures in
+    let lined = subst (λ r. Lined (refused_line r) c.args.out.now c.write_refused.new.out c.write_refused.result) c.refusal.ensures c.write_refused.ensures in
     record {
-      done = deals g.C.Catalogue.entries g.C.Catalogue.lawful b b _ refl refl (line_refused es v room c.args.outcome c.in-Refused.fault c.in-Refused.is c.if-out-lt-LINE-ROOM.false c.args.out.now c.write-refused.new.out c.write-refused.result lined);
-      text = refusal_written es v room c.args.outcome c.in-Refused.fault c.in-Refused.is c.if-out-lt-LINE-ROOM.false c.args.out.now c.write-refused.new.out c.write-refused.result lined;
+      done = deals g.C.Catalogue.entries g.C.Catalogue.lawful b b _ refl refl (line_refused es v room c.args.outcome c.in-Refused.fault c.in-Refused.is c.if-out-lt-LINE_ROOM.false c.args.out.now c.write_refused.new.out c.write_refused.result lined);
+      text = refusal_written es v room c.args.outcome c.in-Refused.fault c.in-Refused.is c.if-out-lt-LINE_ROOM.false c.args.out.now c.write_refused.new.out c.write_refused.result lined;
     }

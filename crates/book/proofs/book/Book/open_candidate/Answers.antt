@@ -9,14 +9,14 @@ use Rattle.book.specs.Standing.{Answers}
 use Rattle.book.proofs.Submits.{submit_refused, submit_opens}
 use Rattle.book.proofs.book.Book.open_candidate.Goals as goal
 
-pub returns-in-err-judged : goal.returns-in-err-judged
-returns-in-err-judged g c =
-    let p = err_from_is_err_and c.from-residual.result c.from-residual.ensures.1 in
+pub returns-in_err-judged : goal.returns-in_err-judged
+returns-in_err-judged g c =
+    let p = err_from_is_err_and c.from_residual.result c.from_residual.ensures.1 in
     let b = c.args.self.now in
     let s = submission c.args.text.now c.args.terms.now c.args.types.now c.args.numbers.now in
     rw (p.1, p.2) (record {
-      link = record { same = refl; answers = submit_refused _ (view b.table) s (says c.in-err-judged.field-0.0) c.in-err-judged.ensures.ledger };
-      work = c.in-err-judged.ensures.keeps;
+      link = record { same = refl; answers = submit_refused _ (view b.table) s (says c.in_err-judged.field-0.0) c.in_err-judged.ensures.ledger };
+      work = c.in_err-judged.ensures.keeps;
       kept = refl;
       candidate = tt;
     })
@@ -27,14 +27,14 @@ returns g c =
     let v = view b.table in
     let es = g.C.Catalogue.entries b.catalogue in
     let s = submission c.args.text.now c.args.terms.now c.args.types.now c.args.numbers.now in
-    let j = c.in-ok-judged.judged in
+    let j = c.in_ok-judged.judged in
     let terms = c.judge.new.terms in
     let types = c.judge.new.types in
     let z : j.nodes - 0 ≡ j.nodes = omega arith in
     let y : j.records - 0 ≡ j.records = omega arith in
     let is : view c.put.new.self ≡ with_candidate v (row (take j.nodes terms) (take j.records types)) = (
     c.put.ensures ∙ ap₂ (λ (n m : ℕ). with_candidate v (row (take n terms) (take m types))) z y) in
-    let answers = submit_opens es v s terms types j c.in-ok-judged.ensures.ledger in
+    let answers = submit_opens es v s terms types j c.in_ok-judged.ensures.ledger in
     record {
       link = record {
         same = refl;

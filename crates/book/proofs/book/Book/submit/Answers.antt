@@ -13,16 +13,16 @@ use Rattle.book.proofs.Submits.{submit_refused, zeroed, unchanged}
 use Rattle.book.proofs.Whole.{deals, does}
 use Rattle.book.proofs.book.Book.submit.Goals as goal
 
-pub returns-in-err-admit : goal.returns-in-err-admit
-returns-in-err-admit g c =
-    let p = err_from_is_err_and c.from-residual.result c.from-residual.ensures.1 in
+pub returns-in_err-admit : goal.returns-in_err-admit
+returns-in_err-admit g c =
+    let p = err_from_is_err_and c.from_residual.result c.from_residual.ensures.1 in
     let b = c.args.self.now in
     let v = view b.table in
     let es = g.C.Catalogue.entries b.catalogue in
     let s = submission c.args.text.now c.args.terms.now c.args.types.now c.args.numbers.now in
     rw (p.1, p.2) (record {
-      done = deals g.C.Catalogue.entries g.C.Catalogue.lawful b b v refl refl (submit_refused es v s (says c.in-err-admit.field-0.0) (λ l st. not_begun es v l st s c.in-err-admit.ensures.0));
-      memories = unchanged c.args.terms.now c.args.terms.now c.args.types.now c.args.types.now c.args.numbers.now c.args.numbers.now _ c.in-err-admit.ensures.1 refl refl refl;
+      done = deals g.C.Catalogue.entries g.C.Catalogue.lawful b b v refl refl (submit_refused es v s (says c.in_err-admit.field-0.0) (λ l st. not_begun es v l st s c.in_err-admit.ensures.0));
+      memories = unchanged c.args.terms.now c.args.terms.now c.args.types.now c.args.types.now c.args.numbers.now c.args.numbers.now _ c.in_err-admit.ensures.1 refl refl refl;
       ticket = tt;
       kept = refl;
       candidate = tt;
@@ -35,8 +35,8 @@ returns-in-Ok g c =
     let s = submission c.args.text.now c.args.terms.now c.args.types.now c.args.numbers.now in
     record {
       done = does g.C.Catalogue.entries g.C.Catalogue.lawful
-          (subst (λ (t : Ticket). Link g.C.Catalogue.entries b (submit s) (opened t.number) c.open-candidate-opened.new.self) (sym c.new.ensures) o.link);
-      memories = zeroed _ _ _ _ _ _ false refl (c.clear-terms.ensures ∙ ap (λ (n : ℕ). replicate n no_term_node) c.open-candidate-opened.auto.terms) (c.clear-types.ensures ∙ ap (λ (n : ℕ). replicate n no_type_node) c.open-candidate-opened.auto.types) (c.clear-numbers.ensures ∙ ap (λ (n : ℕ). replicate n 0) c.open-candidate-opened.auto.numbers);
+          (subst (λ (t : Ticket). Link g.C.Catalogue.entries b (submit s) (opened t.number) c.open_candidate-opened.new.self) (sym c.new.ensures) o.link);
+      memories = zeroed _ _ _ _ _ _ false refl (c.clear_terms.ensures ∙ ap (λ (n : ℕ). replicate n no_term_node) c.open_candidate-opened.auto.terms) (c.clear_types.ensures ∙ ap (λ (n : ℕ). replicate n no_type_node) c.open_candidate-opened.auto.types) (c.clear_numbers.ensures ∙ ap (λ (n : ℕ). replicate n 0) c.open_candidate-opened.auto.numbers);
       ticket = ap (λ (t : Ticket). t.spent) c.new.ensures;
       kept = tt;
       candidate = o.candidate;
@@ -47,7 +47,7 @@ returns-in-Err g c =
     let o = c.in-Err.ensures in
     record {
       done = does g.C.Catalogue.entries g.C.Catalogue.lawful o.link;
-      memories = zeroed _ _ _ _ _ _ (unread c.in-Err.fault) o.work (c.clear-terms.ensures ∙ ap (λ (n : ℕ). replicate n no_term_node) c.open-candidate-opened.auto.terms) (c.clear-types.ensures ∙ ap (λ (n : ℕ). replicate n no_type_node) c.open-candidate-opened.auto.types) (c.clear-numbers.ensures ∙ ap (λ (n : ℕ). replicate n 0) c.open-candidate-opened.auto.numbers);
+      memories = zeroed _ _ _ _ _ _ (unread c.in-Err.fault) o.work (c.clear_terms.ensures ∙ ap (λ (n : ℕ). replicate n no_term_node) c.open_candidate-opened.auto.terms) (c.clear_types.ensures ∙ ap (λ (n : ℕ). replicate n no_type_node) c.open_candidate-opened.auto.types) (c.clear_numbers.ensures ∙ ap (λ (n : ℕ). replicate n 0) c.open_candidate-opened.auto.numbers);
       ticket = tt;
       kept = o.kept;
       candidate = tt;

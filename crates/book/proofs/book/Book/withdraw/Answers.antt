@@ -4,8 +4,8 @@ use Rattle.book.proofs.Filing.{withdraw_busy, withdraw_refused, withdraw_answers
 use Rattle.book.proofs.Whole.{deals}
 use Rattle.book.proofs.book.Book.withdraw.Goals as goal
 
-pub returns-then-is-open : goal.returns-then-is-open
-returns-then-is-open g c =
+pub returns-then-is_open : goal.returns-then-is_open
+returns-then-is_open g c =
     let b = c.args.self.now in
     let h : is_held (view b.table).candidate ≡ true = cc in
     record { done = deals g.C.Catalogue.entries g.C.Catalogue.lawful b b _ refl refl (withdraw_busy _ (view b.table) h); kept = refl }
