@@ -1,8 +1,8 @@
 -- A copy of a list has exactly the instances of the list's type.
 use Rattle.std.proofs.Common.{◌≡◌, ℕ, zero, suc, ◌+◌, ◌-◌, ◌<◌, ◌≤◌, Bool, true, false, cond, ◌&&◌, eqb, ◌≢◌, List, [], ◌∷◌, ◌++◌, length, get_or, set, sym, refl, ap, ◌∙◌, subst, ap₂, ⊎_elim, arith}
 use Rattle.std.proofs.lemmas.Bool.{cases_eq, cond-true, cond-false, eq-eqb, eqb-true, and_parts}
-use Rattle.types.specs.Types.{Ty, variable, base, branch, apply, Instance}
-use Rattle.types.specs.Lists.{zero_node, Lawful, type_at, meaning}
+use Rattle.types.specs.Types.{Ty, variable, base, branch, apply}
+use Rattle.types.specs.Lists.{zero_node, Lawful, type_at}
 use Rattle.types.specs.declared.TypeNode.{TypeNode}
 use Rattle.graph.specs.Graph.{view, graph, Says, Solves, Inside, Sound}
 use Rattle.graph.specs.declared.Node.{Node}

@@ -1,9 +1,9 @@
 -- A merge of two classes, and what it does to the solutions of a graph.
-use Rattle.std.proofs.Common.{◌≡◌, ℕ, ◌+◌, ◌<◌, ◌≤◌, Bool, true, false, ◌≢◌, List, length, get_or, set, sym, refl, ap, ◌∙◌, subst, arith}
+use Rattle.std.proofs.Common.{◌≡◌, ℕ, ◌<◌, Bool, true, false, ◌≢◌, List, length, get_or, set, sym, refl, ap, ◌∙◌, subst, arith}
 use Rattle.std.proofs.lemmas.List.{length-set, get_or-set_same, get_or-set_other}
-use Rattle.types.specs.Types.{Ty, base, branch}
+use Rattle.types.specs.Types.{Ty, base}
 use Rattle.graph.specs.Graph.{Says, Solves, Inside, Sound, alive, live, Kept, Always}
-use Rattle.graph.specs.Unifying.{Alike, Apart, Reduced, Merged, Unified}
+use Rattle.graph.specs.Unifying.{Alike, Reduced, Merged, Unified}
 use Rattle.graph.proofs.Writes.{says_at, inside_at, solves_set, solves_unset, sound_set, live_set, kept_then}
 use Rattle.graph.specs.declared.Node.{Node}
 use Rattle.graph.specs.declared.Node.TheVariants.{Var, Base, Branch, Link}

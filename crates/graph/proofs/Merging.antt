@@ -1,6 +1,6 @@
 -- A merge in the memory is the merge in the graph.
 use Rattle.std.proofs.Common.{◌≡◌, ℕ, ◌<◌, ◌≤◌, ◌≢◌, List, length, get_or, set, sym, refl, ap, ◌∙◌, subst, arith}
-use Rattle.types.specs.Types.{Ty, base, branch}
+use Rattle.types.specs.Types.{Ty}
 use Rattle.types.specs.Lists.{node, zero_node}
 use Rattle.types.specs.declared.TypeNode.{TypeNode}
 use Rattle.graph.specs.Graph.{view, graph, Says, Solves, Sound, alive}

@@ -1,11 +1,11 @@
 -- What a write to one node does to the solutions of a graph.
-use Rattle.std.proofs.Common.{◌≡◌, ℕ, zero, suc, ◌+◌, ◌<◌, ◌≤◌, ◌≢◌, List, [], ◌∷◌, length, get_or, set, sym, refl, ap, ◌∙◌, subst, ⊎_elim, arith}
+use Rattle.std.proofs.Common.{◌≡◌, ℕ, zero, suc, ◌+◌, ◌<◌, ◌≢◌, List, [], ◌∷◌, length, get_or, set, sym, ap, ◌∙◌, subst, ⊎_elim, arith}
 use Rattle.std.proofs.lemmas.List.{length-set, get_or-set_same, get_or-set_other}
 use Rattle.std.proofs.lemmas.Bool.{cases_eq}
 use Rattle.types.specs.Types.{Ty}
 use Rattle.graph.specs.Graph.{Says, Solves, Inside, Sound, alive, live, Kept, Always, Still}
 use Rattle.graph.specs.declared.Node.{Node}
-use Rattle.graph.specs.declared.Node.TheVariants.{Var, Base, Branch, Link}
+use Rattle.graph.specs.declared.Node.TheVariants.{Var, Link}
 
 pub says_at : (v : ℕ → Ty) (ns : List Node) (i : ℕ) (x : Node) → Solves v ns → i < length ns → get_or ns i Var ≡ x → Says v i x
 says_at v ns i x s h e = subst (Says v i) e (s i h)

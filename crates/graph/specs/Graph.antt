@@ -1,6 +1,6 @@
 -- Type graphs in a memory of type nodes, and their solutions.
 use Rattle.std.specs.Prelude.{◌≡◌, ℕ, ◌+◌, ◌<◌, ◌≤◌, cond, List, [], ◌∷◌, map, length, take, ◌==◌, slice_index_or}
-use Rattle.types.specs.Types.{Ty, variable, base, branch}
+use Rattle.types.specs.Types.{Ty, base, branch}
 use Rattle.types.specs.declared.TypeNode.{TypeNode}
 use Rattle.graph.specs.declared.Node.{Node}
 use Rattle.graph.specs.declared.Node.TheVariants.{Var, Base, Branch, Link}

@@ -1,10 +1,10 @@
 -- Function types and calls at the end of a graph.
-use Rattle.std.proofs.Common.{◌≡◌, ℕ, ◌+◌, ◌<◌, ◌≤◌, true, List, [], ◌∷◌, ◌++◌, length, get_or, set, sym, refl, ap, ◌∙◌, subst, ap₂, arith}
+use Rattle.std.proofs.Common.{◌≡◌, ℕ, ◌+◌, ◌<◌, ◌≤◌, true, List, [], ◌∷◌, ◌++◌, length, set, sym, ◌∙◌, subst, ap₂, arith}
 use Rattle.std.proofs.lemmas.List.{length-set}
 use Rattle.types.specs.Types.{Ty, arrow}
 use Rattle.types.specs.Lists.{node, zero_node}
 use Rattle.types.specs.declared.TypeNode.{TypeNode}
-use Rattle.graph.specs.Graph.{Says, Solves, Inside, Sound, graph}
+use Rattle.graph.specs.Graph.{Solves, Sound, graph}
 use Rattle.graph.specs.Unifying.{Unified, Apart}
 use Rattle.graph.specs.declared.Node.{Node}
 use Rattle.graph.specs.declared.Node.TheVariants.{Var, Branch}

@@ -1,13 +1,12 @@
 -- One step of the pass over the nodes of a term.
-use Rattle.std.proofs.Common.{◌≡◌, ℕ, ◌+◌, ◌-◌, ◌<◌, ◌≤◌, ◌≢◌, List, [], ◌∷◌, ◌++◌, length, get_or, take, drop, set, Some, None, sym, refl, ap, ◌∙◌, subst, ap₂, ⊎_elim, arith}
+use Rattle.std.proofs.Common.{◌≡◌, ℕ, ◌+◌, ◌-◌, ◌<◌, ◌≤◌, ◌≢◌, List, [], ◌∷◌, ◌++◌, length, get_or, take, drop, set, sym, refl, ap, ◌∙◌, subst, ⊎_elim, arith}
 use Rattle.std.proofs.lemmas.List.{length-set, length-take, length-take-le, length_push, get_or-take, get_or-set_same, get_or-set_other, get_or_append_left, get_or_push}
 use Rattle.std.proofs.lemmas.Bool.{cases_lt}
-use Rattle.types.specs.Lists.{node, zero_node}
+use Rattle.types.specs.Lists.{zero_node}
 use Rattle.types.specs.declared.TypeNode.{TypeNode}
 use Rattle.term.specs.Terms.{Term, abstraction, application}
 use Rattle.term.specs.declared.TermNode.{TermNode}
 use Rattle.graph.specs.Graph.{Sound, graph}
-use Rattle.graph.specs.declared.Node.{Node}
 use Rattle.graph.specs.declared.Node.TheVariants.{Var}
 use Rattle.graph.proofs.Memory.{graph_length, graph_push}
 use Rattle.copy.specs.Instances.{Lists}
@@ -16,13 +15,12 @@ use Rattle.copy.specs.declared.Made.{Made}
 use Rattle.copy.proofs.Grow.{pushed_sound}
 use Rattle.infer.specs.declared.Found.{Found}
 use Rattle.infer.specs.declared.Leaf.{Leaf}
-use Rattle.infer.specs.declared.Head.{Head}
 use Rattle.infer.specs.declared.Head.TheVariants.{Single, Abstraction, Application}
 use Rattle.infer.specs.Typing.{size}
-use Rattle.infer.specs.Heads.{leaf_need, head_need, need}
+use Rattle.infer.specs.Heads.{need}
 use Rattle.infer.specs.Passes.{Scoped, OfArrow, OfCall, OfLeaf, Refused, Placed, Stands, Typed, Untyped, Finds, Clashes}
-use Rattle.infer.proofs.Typings.{size_application, some_node}
-use Rattle.infer.proofs.Prefixes.{Starts, need_at, IsLeaf, leaf_size, Opens, opens, stands_within}
+use Rattle.infer.proofs.Typings.{size_application}
+use Rattle.infer.proofs.Prefixes.{Starts, need_at, leaf_size, Opens, opens, stands_within}
 use Rattle.infer.proofs.Terms.{untyped_leaf, typed_leaf, untyped_abstraction, typed_abstraction, untyped_function, untyped_argument, untyped_call, typed_application}
 
 pub clash_past : (E K : Lists) (ts : List TermNode) (i : ℕ) (xs : List ℕ) (us : List TypeNode) (n : ℕ) → length ts ≤ i → Clashes E K ts i xs us n

@@ -1,15 +1,15 @@
 -- The graph of a term, from those of its parts.
-use Rattle.std.proofs.Common.{◌≡◌, ℕ, zero, suc, ◌+◌, ◌-◌, ◌<◌, ◌≤◌, List, [], ◌∷◌, ◌++◌, map, reverse, length, get_or, sym, refl, ap, ◌∙◌, subst, ap₂, ⊎_elim, arith}
-use Rattle.std.proofs.lemmas.List.{length_push, get_or_append_left, get_or_push, length-reverse, length-map, get_or-reverse, reverse-append, get_or-map}
+use Rattle.std.proofs.Common.{◌≡◌, ℕ, suc, ◌+◌, ◌-◌, ◌<◌, ◌≤◌, List, [], ◌∷◌, ◌++◌, map, reverse, length, get_or, sym, refl, ap, ◌∙◌, subst, ap₂, ⊎_elim, arith}
+use Rattle.std.proofs.lemmas.List.{length-reverse, length-map, get_or-reverse, reverse-append, get_or-map}
 use Rattle.std.proofs.lemmas.Bool.{cases_lt}
 use Rattle.types.specs.Types.{Ty, base, arrow}
-use Rattle.term.specs.Terms.{Term, variable, abstraction, application, primitive, reference}
+use Rattle.term.specs.Terms.{Term, abstraction, application}
 use Rattle.graph.specs.Graph.{Solves, Sound}
 use Rattle.graph.specs.declared.Node.{Node}
 use Rattle.graph.specs.declared.Node.TheVariants.{Var}
 use Rattle.copy.specs.Instances.{Lists}
 use Rattle.copy.specs.Told.{Agree, Told, Never}
-use Rattle.copy.proofs.Grow.{upd, upd_same, upd_below, pushed_length, pushed_sound, pushed_pop, pushed_onto}
+use Rattle.copy.proofs.Grow.{upd, upd_same, upd_below, pushed_length, pushed_pop, pushed_onto}
 use Rattle.infer.specs.declared.Leaf.{Leaf}
 use Rattle.infer.specs.declared.Leaf.TheVariants.{Nothing, Variable, Primitive, Reference}
 use Rattle.infer.specs.Typing.{size, Typing}

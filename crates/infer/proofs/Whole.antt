@@ -1,5 +1,5 @@
 -- The pass over a whole closed term.
-use Rattle.std.proofs.Common.{◌≡◌, ℕ, ◌+◌, ◌<◌, ◌≤◌, ◌≢◌, List, [], ◌∷◌, ◌++◌, length, get_or, sym, refl, ap, ◌∙◌, subst, append-nil, arith}
+use Rattle.std.proofs.Common.{◌≡◌, ℕ, ◌≢◌, List, [], length, get_or, sym, ap, ◌∙◌, append-nil, arith}
 use Rattle.std.proofs.lemmas.List.{drop_all}
 use Rattle.types.specs.Types.{Ty, base}
 use Rattle.types.specs.declared.TypeNode.{TypeNode}
@@ -11,7 +11,7 @@ use Rattle.copy.specs.Instances.{Lists}
 use Rattle.infer.specs.declared.Found.{Found}
 use Rattle.infer.specs.Typing.{size, Typing}
 use Rattle.infer.specs.Heads.{need}
-use Rattle.infer.specs.Passes.{Stands, Gives, Typed, Untyped, Finds, Clashes, Built, Inferred, Untypable}
+use Rattle.infer.specs.Passes.{Stands, Gives, Typed, Finds, Clashes, Built, Inferred, Untypable}
 use Rattle.infer.proofs.Typings.{some_node, typing_gives, type_typing}
 
 stands : (ts : List TermNode) (t : Term) → prefix t ≡ ts → Stands ts 0 t

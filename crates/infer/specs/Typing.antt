@@ -1,5 +1,5 @@
 -- Typings of terms: a type for each term node, by one step for each kind of node.
-use Rattle.std.specs.Prelude.{◌≡◌, ℕ, ◌+◌, ◌<◌, List, [], ◌∷◌, length, slice_index_or}
+use Rattle.std.specs.Prelude.{◌≡◌, ℕ, ◌+◌, ◌<◌, List, ◌∷◌, length, slice_index_or}
 use Rattle.types.specs.Types.{Ty, base, arrow}
 use Rattle.term.specs.Terms.{Term, variable, abstraction, application, primitive, reference, prefix}
 use Rattle.copy.specs.Instances.{Lists, OfList}

@@ -1,16 +1,16 @@
 -- What a normal list says of its types.
-use Rattle.std.proofs.Common.{◌≡◌, ℕ, zero, suc, ◌+◌, ◌-◌, ◌<◌, ◌≤◌, Bool, true, false, cond, ◌||◌, eqb, ◌⊎◌, List, [], ◌∷◌, ◌++◌, map, length, get_or, take, sym, refl, ap, ◌∙◌, subst, ap₂, inl, inr, ⊎_elim, arith}
+use Rattle.std.proofs.Common.{◌≡◌, ℕ, zero, suc, ◌+◌, ◌-◌, ◌<◌, ◌≤◌, Bool, true, false, cond, ◌||◌, eqb, List, [], ◌∷◌, ◌++◌, map, length, get_or, take, sym, refl, ap, ◌∙◌, subst, ap₂, ⊎_elim, arith}
 use Rattle.std.specs.List.{AllByRecursion as All}
-use Rattle.std.proofs.lemmas.List.{append-nil, append_assoc, length_push, length-map, length-append, get_or-map, map-append, take_at}
+use Rattle.std.proofs.lemmas.List.{append-nil, append_assoc, length_push, length-map, get_or-map, map-append, take_at}
 use Rattle.std.proofs.ByRecursion.{All-weaker, All-append, All-push}
 use Rattle.std.proofs.lemmas.Bool.{both_ways, cases_Bool, eqb-true}
 use Rattle.types.specs.declared.TypeNode.{TypeNode}
 use Rattle.types.specs.Types.{Ty, variable, base, branch, apply, Instance}
-use Rattle.types.specs.Lists.{node, zero_node, Lawful, LawfulNode, shape, reading, type_at, meaning}
-use Rattle.normal.specs.Normal.{same, has, place, postorder, postorders, add, firsts, parts, rank, record_of, records, normal, normal_of}
-use Rattle.normal.specs.Built.{Ready, Built, none, more, variables}
+use Rattle.types.specs.Lists.{zero_node, LawfulNode, shape, reading, type_at, meaning}
+use Rattle.normal.specs.Normal.{has, place, postorder, postorders, add, firsts, parts, rank, record_of, records, normal_of}
+use Rattle.normal.specs.Built.{Built, none}
 use Rattle.normal.specs.Laws.{Proper, Simple, Once, Lower, numbered, NormalOnce, NormalLawful, NormalMeans, NormalBegins, OneListRenames}
-use Rattle.normal.proofs.Parts.{Known, has_at, has_push, place_at, place_own, place_new, place_below, ready, known, record_one, record_left, firsts_append, firsts_branch, firsts_has, firsts_grows, add_new, by_add, visit_built, parts_built, map_same, rank_below, variables_le}
+use Rattle.normal.proofs.Parts.{has_at, has_push, place_at, place_own, place_new, place_below, ready, known, record_one, record_left, firsts_append, firsts_branch, firsts_has, firsts_grows, add_new, by_add, visit_built, parts_built, map_same, rank_below, variables_le}
 use Rattle.normal.proofs.Reading.{shape_branch}
 
 -- ---- records

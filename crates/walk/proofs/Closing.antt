@@ -1,7 +1,7 @@
 -- A node is done: its type is found among the parts, or put behind them.
-use Rattle.std.proofs.Common.{◌≡◌, ℕ, ◌+◌, ◌-◌, ◌*◌, ◌%◌, ◌<◌, ◌≤◌, true, false, ◌≢◌, ◌⊎◌, List, [], ◌∷◌, ◌++◌, length, get_or, set, sym, refl, ap, ◌∙◌, subst, ap₂, ⊎_elim, mod-lt, arith}
+use Rattle.std.proofs.Common.{◌≡◌, ℕ, ◌+◌, ◌*◌, ◌<◌, ◌≤◌, true, false, ◌≢◌, List, [], ◌∷◌, ◌++◌, length, get_or, set, sym, refl, ap, ◌∙◌, subst, ⊎_elim, mod-lt, arith}
 use Rattle.std.proofs.lemmas.List.{length-set, length_push, get_or-set_same, get_or-set_other, get_or_append_left, get_or_push}
-use Rattle.std.proofs.lemmas.Bool.{cases_eq, cases_lt, cases_Bool}
+use Rattle.std.proofs.lemmas.Bool.{cases_eq, cases_Bool}
 use Rattle.types.specs.declared.TypeNode.{TypeNode}
 use Rattle.types.specs.Types.{Ty, variable}
 use Rattle.normal.specs.Normal.{has, place, add}
@@ -9,9 +9,9 @@ use Rattle.normal.specs.Built.{Ready, Built, more}
 use Rattle.normal.proofs.Parts.{has_at, place_at, place_own, place_new, ready, add_old, add_new}
 use Rattle.graph.specs.Graph.{alive}
 use Rattle.graph.specs.declared.Node.{Node}
-use Rattle.graph.specs.declared.Node.TheVariants.{Var, Branch}
+use Rattle.graph.specs.declared.Node.TheVariants.{Var}
 use Rattle.walk.specs.Reads.{Reads, root}
-use Rattle.walk.specs.Table.{Latest, Table, bucket}
+use Rattle.walk.specs.Table.{Table, bucket}
 use Rattle.walk.specs.Work.{Work, work, key_of, part, Marked, Origin, State, Complete, Closed}
 use Rattle.walk.proofs.Chains.{table_same, table_push}
 use Rattle.walk.proofs.Keys.{key_one, key_left}

@@ -1,11 +1,11 @@
 -- The search for a key among the parts listed so far.
-use Rattle.std.proofs.Common.{◌≡◌, ℕ, ◌+◌, ◌-◌, ◌<◌, ◌≤◌, ◌≢◌, ◌⊎◌, List, length, get_or, sym, refl, ap, ◌∙◌, subst, ap₂, ⊎_elim, arith}
+use Rattle.std.proofs.Common.{◌≡◌, ℕ, ◌+◌, ◌-◌, ◌<◌, ◌≤◌, ◌≢◌, List, length, get_or, sym, ap, ◌∙◌, subst, ap₂, ⊎_elim, arith}
 use Rattle.std.proofs.lemmas.Bool.{cases_lt, cases_eq}
 use Rattle.types.specs.declared.TypeNode.{TypeNode}
 use Rattle.types.specs.Types.{Ty}
 use Rattle.types.specs.Lists.{node}
 use Rattle.graph.specs.declared.Node.{Node}
-use Rattle.walk.specs.Table.{Latest, Table, bucket}
+use Rattle.walk.specs.Table.{Table, bucket}
 use Rattle.walk.specs.Work.{Work, key_of, part, State, Origin}
 
 -- of the first n places, those from at on are searched for x, and the next is at - 1

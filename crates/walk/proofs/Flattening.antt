@@ -1,11 +1,11 @@
 -- Links that are made straight, from the lowest on.
-use Rattle.std.proofs.Common.{◌≡◌, ℕ, zero, suc, ◌+◌, ◌<◌, ◌≤◌, Bool, true, false, cond, eqb, ◌≢◌, ◌⊎◌, List, map, length, get_or, take, set, sym, refl, ap, ◌∙◌, subst, ⊎_elim, arith}
+use Rattle.std.proofs.Common.{◌≡◌, ℕ, ◌+◌, ◌<◌, ◌≤◌, eqb, ◌≢◌, List, length, get_or, take, set, sym, refl, ap, ◌∙◌, subst, ⊎_elim, arith}
 use Rattle.std.proofs.lemmas.List.{length-set, get_or-set_same, get_or-set_other}
 use Rattle.std.proofs.lemmas.Bool.{cases_eq, eqb-false, cond_both}
 use Rattle.types.specs.declared.TypeNode.{TypeNode}
 use Rattle.types.specs.Lists.{node, zero_node}
-use Rattle.graph.specs.Graph.{view, graph, Inside, Sound, alive, Kept, Always, Still}
-use Rattle.graph.proofs.Writes.{inside_at, kept_none}
+use Rattle.graph.specs.Graph.{view, graph, Sound, alive, Kept, Always, Still}
+use Rattle.graph.proofs.Writes.{inside_at}
 use Rattle.graph.proofs.Memory.{graph_set, graph_at, graph_length, skip}
 use Rattle.graph.specs.declared.Node.{Node}
 use Rattle.graph.specs.declared.Node.TheVariants.{Var, Base, Branch, Link}

@@ -1,11 +1,11 @@
 -- What the nodes of a graph read as, and the nodes that stand for their classes.
-use Rattle.std.proofs.Common.{◌≡◌, ℕ, zero, suc, ◌+◌, ◌<◌, ◌≤◌, List, [], ◌∷◌, map, length, get_or, sym, refl, ap, ◌∙◌, subst, ap₂, arith}
+use Rattle.std.proofs.Common.{◌≡◌, ℕ, zero, suc, ◌<◌, List, [], ◌∷◌, map, length, get_or, sym, refl, ap, ◌∙◌, subst, ap₂, arith}
 use Rattle.std.proofs.lemmas.List.{length-map}
 use Rattle.types.specs.declared.TypeNode.{TypeNode}
 use Rattle.types.specs.Types.{Ty, variable, base, branch, apply}
 use Rattle.types.specs.Lists.{zero_node}
 use Rattle.normal.specs.Laws.{Proper}
-use Rattle.graph.specs.Graph.{view, Solves, Inside, Sound, alive}
+use Rattle.graph.specs.Graph.{view, Solves, Sound, alive}
 use Rattle.graph.proofs.Writes.{says_at, inside_at}
 use Rattle.graph.specs.declared.Node.{Node}
 use Rattle.graph.specs.declared.Node.TheVariants.{Var, Base, Branch, Link}

@@ -1,16 +1,16 @@
 -- Keys tell the parts of a list, and are worked out from a node and the marks of its parts.
-use Rattle.std.proofs.Common.{◌≡◌, ℕ, ◌+◌, ◌-◌, ◌<◌, ◌≤◌, true, List, [], ◌∷◌, ◌++◌, map, length, get_or, sym, refl, ap, ◌∙◌, subst, ap₂, arith}
+use Rattle.std.proofs.Common.{◌≡◌, ℕ, ◌+◌, ◌-◌, ◌<◌, ◌≤◌, List, ◌++◌, map, length, get_or, sym, refl, ap, ◌∙◌, ap₂, arith}
 use Rattle.types.specs.declared.TypeNode.{TypeNode}
 use Rattle.types.specs.Types.{Ty, variable, base, branch}
 use Rattle.types.specs.Lists.{node, zero_node}
-use Rattle.normal.specs.Normal.{has, place}
+use Rattle.normal.specs.Normal.{place}
 use Rattle.normal.specs.Built.{Ready}
-use Rattle.normal.proofs.Parts.{place_own, place_one, place_left, has_at, ready}
+use Rattle.normal.proofs.Parts.{place_own, place_one, place_left}
 use Rattle.std.proofs.lemmas.List.{length-map}
 use Rattle.graph.specs.Graph.{view}
 use Rattle.graph.proofs.Writes.{inside_at}
 use Rattle.graph.specs.declared.Node.{Node}
-use Rattle.graph.specs.declared.Node.TheVariants.{Var, Base, Branch, Link}
+use Rattle.graph.specs.declared.Node.TheVariants.{Var, Base, Branch}
 use Rattle.walk.specs.Reads.{Reads, root, Flat}
 use Rattle.walk.specs.Work.{key_of, part, Marked, Origin}
 use Rattle.walk.proofs.Graphs.{nodes_at, spelt_as, reads_one, root_inside, root_reads}

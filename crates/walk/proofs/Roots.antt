@@ -1,17 +1,17 @@
 -- The steps from one listed node to the next.
-use Rattle.std.proofs.Common.{◌≡◌, ℕ, zero, suc, ◌+◌, ◌-◌, ◌<◌, ◌≤◌, ◌≢◌, ◌⊎◌, List, [], ◌∷◌, ◌++◌, map, length, get_or, set, sym, refl, ap, ◌∙◌, subst, ap₂, ⊎_elim, arith}
+use Rattle.std.proofs.Common.{◌≡◌, ℕ, ◌+◌, ◌<◌, ◌≢◌, List, [], ◌∷◌, ◌++◌, map, length, get_or, set, sym, refl, ap, ◌∙◌, subst, ap₂, ⊎_elim, arith}
 use Rattle.std.specs.List.{AllByRecursion as All}
 use Rattle.std.proofs.lemmas.List.{append-nil, length-map, length_push, get_or_push, get_or_append_left, get_or-set_same, get_or-set_other}
 use Rattle.std.proofs.ByRecursion.{All-from_get_or}
 use Rattle.std.proofs.lemmas.Bool.{cases_eq}
 use Rattle.types.specs.Types.{Ty, variable}
 use Rattle.normal.specs.Normal.{place, postorder, postorders, firsts, parts}
-use Rattle.normal.specs.Built.{Built, none}
+use Rattle.normal.specs.Built.{none}
 use Rattle.normal.specs.Laws.{Proper}
 use Rattle.normal.proofs.Parts.{firsts_append, firsts_place}
 use Rattle.normal.proofs.Meaning.{postorders_append, parts_have}
 use Rattle.types.specs.declared.TypeNode.{TypeNode}
-use Rattle.graph.specs.Graph.{view, Solves}
+use Rattle.graph.specs.Graph.{view}
 use Rattle.graph.specs.declared.Node.{Node}
 use Rattle.walk.specs.Reads.{Reads, Flat}
 use Rattle.walk.specs.Work.{Work, State, Room, Grown, Walked, Above}

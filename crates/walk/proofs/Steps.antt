@@ -1,19 +1,19 @@
 -- The steps of the walk.
-use Rattle.std.proofs.Common.{◌≡◌, ℕ, zero, suc, ◌+◌, ◌-◌, ◌<◌, ◌≤◌, true, false, ◌≢◌, ◌⊎◌, List, [], ◌∷◌, ◌++◌, length, get_or, set, sym, refl, ap, ◌∙◌, subst, ap₂, ⊎_elim, arith}
-use Rattle.std.proofs.lemmas.List.{length-set, set-set, get_or-set_same, get_or-set_other}
+use Rattle.std.proofs.Common.{◌≡◌, ℕ, zero, suc, ◌+◌, ◌<◌, ◌≤◌, true, ◌≢◌, List, [], ◌∷◌, length, get_or, set, sym, refl, ap, ◌∙◌, subst, ap₂, ⊎_elim, arith}
+use Rattle.std.proofs.lemmas.List.{length-set, get_or-set_same, get_or-set_other}
 use Rattle.std.proofs.lemmas.Bool.{cases_eq}
 use Rattle.types.specs.declared.TypeNode.{TypeNode}
-use Rattle.types.specs.Types.{Ty, variable, base, branch}
+use Rattle.types.specs.Types.{Ty, variable, branch}
 use Rattle.types.specs.Lists.{node}
 use Rattle.normal.specs.Normal.{has, place, postorder, add, firsts}
-use Rattle.normal.specs.Built.{Ready, Built}
+use Rattle.normal.specs.Built.{Ready}
 use Rattle.normal.proofs.Parts.{has_at, place_own, firsts_branch, firsts_has, firsts_place, visit_built, visit_again}
-use Rattle.graph.specs.Graph.{Solves, alive}
+use Rattle.graph.specs.Graph.{Solves}
 use Rattle.graph.proofs.Writes.{says_at}
 use Rattle.graph.specs.declared.Node.{Node}
-use Rattle.graph.specs.declared.Node.TheVariants.{Var, Base, Branch, Link}
-use Rattle.walk.specs.Reads.{Reads, reads_variable, reads_base, reads_branch, root, Flat}
-use Rattle.walk.specs.Work.{Work, work, key_of, part, Marked, Origin, State, zeros, Room, Grown, Exact, Walked, size, Above, Complete, Closed}
+use Rattle.graph.specs.declared.Node.TheVariants.{Var, Base, Branch}
+use Rattle.walk.specs.Reads.{Reads, reads_branch, root, Flat}
+use Rattle.walk.specs.Work.{Work, work, key_of, part, State, zeros, Room, Grown, Exact, Walked, size, Above, Complete, Closed}
 use Rattle.walk.proofs.Graphs.{root_inside, root_same, root_reads, reads_proper}
 
 -- ---- marks

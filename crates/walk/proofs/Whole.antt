@@ -1,15 +1,13 @@
 -- The walk as a whole: what is found when every node was walked.
-use Rattle.std.proofs.Common.{◌≡◌, ℕ, zero, suc, ◌+◌, ◌-◌, ◌<◌, ◌≤◌, false, List, [], ◌∷◌, ◌++◌, map, length, get_or, take, replicate, sym, refl, ap, ◌∙◌, subst, ap₂, arith}
-use Rattle.std.specs.List.{AllByRecursion as All}
+use Rattle.std.proofs.Common.{◌≡◌, ℕ, zero, suc, ◌<◌, ◌≤◌, List, [], ◌∷◌, ◌++◌, map, length, get_or, take, replicate, sym, refl, ap, ◌∙◌, subst, ap₂, arith}
 use Rattle.std.proofs.lemmas.List.{length-map, length-append, get_or_append_left, get_or-map, get_or-take, ext_get_or}
-use Rattle.std.proofs.lemmas.Bool.{both_ways}
 use Rattle.types.specs.declared.TypeNode.{TypeNode}
-use Rattle.types.specs.Types.{Ty, variable, base, branch, apply}
+use Rattle.types.specs.Types.{Ty, variable, branch, apply}
 use Rattle.types.specs.Lists.{node, zero_node}
 use Rattle.normal.specs.Normal.{place, postorders, firsts, parts, record_of, records, normal}
-use Rattle.normal.specs.Built.{Built, none}
-use Rattle.normal.specs.Laws.{Proper, Simple}
-use Rattle.normal.proofs.Parts.{firsts_grows, parts_built}
+use Rattle.normal.specs.Built.{none}
+use Rattle.normal.specs.Laws.{Simple}
+use Rattle.normal.proofs.Parts.{firsts_grows}
 use Rattle.normal.proofs.Meaning.{records_grow}
 use Rattle.normal.proofs.Rename.{renaming_keeps_list}
 use Rattle.graph.specs.Graph.{Says, Solves, Sound, Kept, Always}
@@ -17,8 +15,8 @@ use Rattle.graph.proofs.Writes.{inside_at}
 use Rattle.graph.specs.declared.Node.{Node}
 use Rattle.graph.specs.declared.Node.TheVariants.{Var, Base, Branch, Link}
 use Rattle.walk.specs.Reads.{Reads, reads_variable, reads_base, reads_branch, reads_link, MostGeneral, Flat}
-use Rattle.walk.specs.Work.{Work, work, Marked, State, Room, zeros}
-use Rattle.walk.specs.Listing.{Shut, Unsolvable, Sofar, Placed, Rooted, Columns, Narrow, SimpleNode, SimpleGraph, Canonical, Gathered, Listed, OneList}
+use Rattle.walk.specs.Work.{Work, work, State, Room, zeros}
+use Rattle.walk.specs.Listing.{Shut, Sofar, Rooted, Columns, Narrow, SimpleNode, SimpleGraph, Canonical, Gathered, Listed, OneList}
 use Rattle.walk.proofs.Graphs.{spelt_as, reads_one, general, reads_proper}
 use Rattle.walk.proofs.Chains.{table_none}
 use Rattle.walk.proofs.Gathering.{written}

@@ -1,5 +1,5 @@
 -- What is listed when the walk has gone over several nodes, and what is promised of the whole.
-use Rattle.std.specs.Prelude.{◌≡◌, ℕ, ◌+◌, ◌-◌, ◌<◌, ◌≤◌, List, [], ◌∷◌, ◌++◌, map, length, replicate, Ok, Err, Result, ◌≢◌, slice_index, slice_index_or}
+use Rattle.std.specs.Prelude.{◌≡◌, ℕ, ◌-◌, ◌<◌, ◌≤◌, List, [], ◌++◌, map, length, replicate, Ok, Err, Result, ◌≢◌, slice_index, slice_index_or}
 use Rattle.types.specs.declared.TypeNode.{TypeNode}
 use Rattle.types.specs.Types.{Ty, variable}
 use Rattle.types.specs.Lists.{node, zero_node}
@@ -9,7 +9,7 @@ use Rattle.graph.specs.declared.Node.TheVariants.{Var, Base, Branch, Link}
 use Rattle.normal.specs.Normal.{place, postorders, firsts, parts, records, normal}
 use Rattle.normal.specs.Laws.{Proper, Simple}
 use Rattle.walk.specs.Reads.{Reads, MostGeneral}
-use Rattle.walk.specs.Work.{Work, Marked, State, Room}
+use Rattle.walk.specs.Work.{Work, State, Room}
 use Rattle.walk.specs.declared.Looped.{Looped}
 
 -- no node is open

@@ -1,4 +1,4 @@
-use Rattle.std.proofs.Common.{◌≡◌, ℕ, ◌+◌, ◌<◌, ◌≤◌, length, subst, arith}
+use Rattle.std.proofs.Common.{◌≡◌, ℕ, ◌+◌, ◌<◌, length, subst, arith}
 use Rattle.types.specs.Lists.{Lawful}
 use Rattle.graph.specs.Graph.{graph}
 use Rattle.copy.proofs.Firsts.{noted_none}

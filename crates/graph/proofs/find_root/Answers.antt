@@ -1,6 +1,6 @@
 use Rattle.std.proofs.Common.{◌≤◌, length, sym, ◌∙◌, arith}
 use Rattle.graph.specs.Graph.{Always}
-use Rattle.graph.proofs.Writes.{kept_none, kept_then}
+use Rattle.graph.proofs.Writes.{kept_then}
 use Rattle.graph.proofs.Memory.{goes_down, says_link}
 use Rattle.graph.proofs.find_root.Goals as goal
 

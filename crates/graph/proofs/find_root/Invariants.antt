@@ -1,4 +1,4 @@
-use Rattle.std.proofs.Common.{◌≡◌, ℕ, ◌<◌, length}
+use Rattle.std.proofs.Common.{◌≡◌, ℕ, ◌<◌}
 use Rattle.types.specs.Types.{Ty}
 use Rattle.graph.specs.Graph.{graph, Solves, Kept, Always, Still}
 use Rattle.graph.proofs.find_root.Given as goal

@@ -1,13 +1,12 @@
-use Rattle.std.proofs.Common.{◌≡◌, ℕ, ◌+◌, ◌-◌, ◌<◌, ◌≤◌, List, map, length, get_or, set, sym, refl, ap, ◌∙◌, subst, arith, length-set}
+use Rattle.std.proofs.Common.{◌≡◌, ◌+◌, ◌-◌, ◌<◌, map, length, get_or, set, sym, refl, ◌∙◌, subst, arith, length-set}
 use Rattle.std.proofs.lemmas.List.{length-map, get_or-set_same}
 use Rattle.std.proofs.lemmas.Result.{err_from_is_err_and}
-use Rattle.types.specs.Types.{Ty, variable, base}
+use Rattle.types.specs.Types.{variable, base}
 use Rattle.graph.specs.Graph.{view}
 use Rattle.graph.proofs.Writes.{inside_at}
 use Rattle.walk.specs.Reads.{Kind, reads_variable, reads_base}
-use Rattle.walk.specs.Work.{work, State, Room, zeros}
 use Rattle.walk.proofs.Graphs.{nodes_at, not_link, root_within}
-use Rattle.walk.proofs.Steps.{zeros_set, opening, opened, room_opened, walked_known, walked_leaf, walked_branch, complete_variable, complete_base, room_walked, complete_walked, still_open, looped, above_part, above_grown, smaller_left, smaller_right}
+use Rattle.walk.proofs.Steps.{zeros_set, opened, room_opened, walked_known, walked_leaf, walked_branch, complete_variable, complete_base, room_walked, complete_walked, still_open, looped, above_part, above_grown, smaller_left, smaller_right}
 use Rattle.walk.proofs.+walk.Goals as goal
 
 pub bounds-marks-i : goal.bounds-marks-i

@@ -1,4 +1,4 @@
-use Rattle.std.proofs.Common.{map, length, get_or, arith}
+use Rattle.std.proofs.Common.{map, arith}
 use Rattle.std.proofs.lemmas.List.{length-map}
 use Rattle.graph.specs.Graph.{view}
 use Rattle.walk.specs.Work.{work}

@@ -1,8 +1,8 @@
-use Rattle.std.proofs.Common.{◌≡◌, ◌-◌, ◌<◌, map, length, get_or, sym, ap, ◌∙◌, arith}
+use Rattle.std.proofs.Common.{◌≡◌, ◌-◌, ap, ◌∙◌, arith}
 use Rattle.std.proofs.lemmas.List.{length-map}
 use Rattle.graph.specs.Graph.{view}
-use Rattle.walk.specs.Work.{work, key_of, part}
-use Rattle.walk.proofs.Finding.{seek_start, seek_next, key_there, origin_there, same_node}
+use Rattle.walk.specs.Work.{key_of, part}
+use Rattle.walk.proofs.Finding.{seek_next, key_there}
 use Rattle.types.specs.declared.TypeNode.{TypeNode}
 use Rattle.walk.proofs.find.Goals as goal
 use Rattle.walk.proofs.find.Goals.{else-y-x-via-then-y-x+then-y-x-2+else-y-x-3, else-y-x-via-then-y-x+else-y-x-2, else-y-x-via-else-y-x}

@@ -1,5 +1,5 @@
-use Rattle.std.proofs.Common.{◌≡◌, sym, ap, ◌∙◌, subst, arith}
-use Rattle.graph.specs.Graph.{graph, Always}
+use Rattle.std.proofs.Common.{arith}
+use Rattle.graph.specs.Graph.{Always}
 use Rattle.graph.proofs.Writes.{kept_then}
 use Rattle.walk.proofs.Flattening.{straight_flat}
 use Rattle.walk.proofs.flatten.Goals as goal

@@ -1,9 +1,9 @@
-use Rattle.std.proofs.Common.{◌≡◌, map, length, get_or, sym, refl, ap, ◌∙◌, ap₂, arith}
+use Rattle.std.proofs.Common.{map, sym, ◌∙◌, ap₂, arith}
 use Rattle.std.proofs.lemmas.List.{length-map}
 use Rattle.graph.specs.Graph.{view}
 use Rattle.types.specs.Lists.{node}
 use Rattle.walk.proofs.Graphs.{nodes_at, not_link}
-use Rattle.walk.proofs.Keys.{Found, found_parts, key_variable, key_base, key_branch}
+use Rattle.walk.proofs.Keys.{found_parts, key_variable, key_base, key_branch}
 use Rattle.walk.proofs.key_at.Goals as goal
 
 pub bounds-graph-i : goal.bounds-graph-i

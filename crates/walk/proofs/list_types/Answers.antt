@@ -1,6 +1,6 @@
-use Rattle.std.proofs.Common.{◌≡◌, ℕ, ◌+◌, ◌<◌, ◌≤◌, List, map, length, get_or, take, drop, sym, refl, ap, ◌∙◌, subst, arith}
-use Rattle.std.proofs.lemmas.List.{length-map, length-append, length-take-le}
-use Rattle.graph.specs.Graph.{view, graph}
+use Rattle.std.proofs.Common.{◌≤◌, length, drop, arith}
+use Rattle.std.proofs.lemmas.List.{length-append, length-take-le}
+use Rattle.graph.specs.Graph.{graph}
 use Rattle.graph.proofs.Memory.{graph_length, same_long}
 use Rattle.walk.proofs.Whole.{narrow_append, listed, cleared}
 use Rattle.walk.proofs.list_types.Goals as goal

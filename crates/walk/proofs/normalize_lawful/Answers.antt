@@ -1,4 +1,4 @@
-use Rattle.std.proofs.Common.{◌≡◌, ℕ, zero, suc, ◌-◌, ◌<◌, ◌≤◌, length, get_or, take, drop, sym, ap, ◌∙◌, arith}
+use Rattle.std.proofs.Common.{length, drop, arith}
 use Rattle.std.proofs.lemmas.List.{length-append, length-take-le}
 use Rattle.walk.proofs.Copied.{graph_sound, graph_solved, normalized, only_root}
 use Rattle.walk.proofs.normalize_lawful.Goals as goal

@@ -1,4 +1,3 @@
-use Rattle.std.proofs.Common.{sym, refl}
 use Rattle.walk.proofs.Graphs.{root_at}
 use Rattle.walk.proofs.root_of.Goals as goal
 

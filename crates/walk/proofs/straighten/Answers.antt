@@ -1,5 +1,4 @@
-use Rattle.std.proofs.Common.{◌≡◌, sym, ap, ◌∙◌, arith}
-use Rattle.graph.specs.Graph.{alive}
+use Rattle.std.proofs.Common.{sym, arith}
 use Rattle.graph.proofs.Writes.{kept_none}
 use Rattle.walk.proofs.Flattening.{looked_alive, straight_node, next_below, straight_next, skipped_kept, skipped_simple, skipped_straight}
 use Rattle.walk.proofs.straighten.Goals as goal

@@ -1,9 +1,7 @@
-use Rattle.std.proofs.Common.{◌≡◌, ℕ, ◌+◌, ◌<◌, ◌≤◌, List, map, length, get_or, sym, refl, ap, ◌∙◌, subst, arith}
+use Rattle.std.proofs.Common.{ℕ, ◌<◌, map, length, get_or, ◌∙◌, arith}
 use Rattle.std.proofs.lemmas.List.{length-map}
-use Rattle.std.proofs.lemmas.Result.{err_from_is_err_and}
 use Rattle.graph.specs.Graph.{view}
-use Rattle.walk.specs.Work.{work}
-use Rattle.walk.proofs.Roots.{room_nodes, room_records}
+use Rattle.walk.proofs.Roots.{room_records}
 use Rattle.walk.proofs.Whole.{state_none, room_none, shut_none, gathered, wanted_below}
 use Rattle.walk.proofs.walk_all.Goals as goal
 

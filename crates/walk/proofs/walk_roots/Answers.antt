@@ -1,9 +1,7 @@
-use Rattle.std.proofs.Common.{◌≡◌, ℕ, ◌+◌, ◌<◌, ◌≤◌, ◌≢◌, List, [], map, length, get_or, set, sym, ap, ◌∙◌, subst, arith}
+use Rattle.std.proofs.Common.{◌≢◌, [], map, get_or, ◌∙◌, arith}
 use Rattle.std.proofs.lemmas.List.{get_or-set_other}
 use Rattle.std.proofs.lemmas.Result.{err_from_is_err_and}
 use Rattle.graph.specs.Graph.{view}
-use Rattle.walk.specs.Work.{Walked, Work, work}
-use Rattle.walk.specs.Listing.{Sofar, Placed, Rooted}
 use Rattle.walk.proofs.Roots.{shut_grown, nothing_above, sofar_more, placed_more, walked_at, rooted, room_nodes}
 use Rattle.walk.proofs.Steps.{room_walked}
 use Rattle.walk.proofs.walk_roots.Goals as goal

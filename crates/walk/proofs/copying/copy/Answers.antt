@@ -1,4 +1,4 @@
-use Rattle.std.proofs.Common.{◌≡◌, length, get_or, arith}
+use Rattle.std.proofs.Common.{length, arith}
 use Rattle.types.specs.Lists.{zero_node}
 use Rattle.graph.specs.Graph.{view}
 use Rattle.walk.specs.Copies.{Copy}

@@ -1,7 +1,6 @@
-use Rattle.std.proofs.Common.{◌≡◌, ℕ, ◌+◌, ◌-◌, ◌<◌, ◌≤◌, eqb, ◌≢◌, List, map, length, get_or, take, set, sym, refl, ap, ◌∙◌, subst, arith}
+use Rattle.std.proofs.Common.{◌<◌, eqb, ◌≢◌, map, get_or, ◌∙◌, arith}
 use Rattle.std.proofs.lemmas.List.{length-map, get_or-set_other}
 use Rattle.graph.specs.Graph.{view}
-use Rattle.walk.specs.Work.{Origin, key_of, part}
 use Rattle.walk.proofs.Gathering.{variables_take, columns_more, narrow_more, row_worked, variables_worked, number_narrow, key_made}
 use Rattle.walk.proofs.gather.columns.Goals as goal
 

@@ -1,4 +1,4 @@
-use Rattle.std.proofs.Common.{◌≡◌, ℕ, ◌<◌, ◌≤◌, List, map, length, get_or, take}
+use Rattle.std.proofs.Common.{◌≡◌, ℕ, ◌≤◌, List, map, length, get_or, take}
 use Rattle.types.specs.Types.{Ty}
 use Rattle.graph.specs.Graph.{view}
 use Rattle.normal.specs.Built.{variables}
