@@ -3,7 +3,7 @@ use Rattle.std.proofs.Common.{◌≡◌, ℕ, ◌+◌, ◌-◌, ◌<◌, ◌≤�
 use Rattle.std.proofs.lemmas.List.{take_at}
 use Rattle.std.proofs.lemmas.List.Edits.{paste_all}
 use Rattle.std.proofs.str.Laws.{order}
-use Rattle.std.specs.List.{AllByRecursion as All}
+use Rattle.std.specs.List.{AllByRecursion}
 use Rattle.catalogue.specs.Names.{Name}
 use Rattle.catalogue.specs.Entries.{Entry, Least}
 use Rattle.grammar.specs.Grammar.{Tree, nodes, Is, expression}
@@ -109,7 +109,7 @@ module _ (text : List ℕ) (es : List Entry) (filed : ℕ) (out out' : List Term
   refused_name at h l e =
       unknown p.parses (few_nodes h) (fits l) (subst (Fails (Known es) (λ u. u.at) (uses [] p.tree)) e (p.naming (few_nodes h)))
 
-  all_known : r.count ≤ 1024 → r.unknown ≡ None → All (Known es) (uses [] p.tree)
+  all_known : r.count ≤ 1024 → r.unknown ≡ None → AllByRecursion (Known es) (uses [] p.tree)
   all_known h e = subst (Fails (Known es) (λ u. u.at) (uses [] p.tree)) e (p.naming (few_nodes h))
 
   pub refused_reference : (at : ℕ) → r.count ≤ 1024 → r.count ≤ length out → r.unknown ≡ None → r.unfiled ≡ Some at → Refuses es filed text (length out) (says (fault.NotFiled at))

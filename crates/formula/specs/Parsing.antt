@@ -4,7 +4,7 @@ use Rattle.std.specs.Borrow.{Bor}
 use Rattle.std.proofs.Math.Seq.{paste}
 use Rattle.catalogue.specs.Names.{Name}
 use Rattle.catalogue.specs.Entries.{Entry}
-use Rattle.std.specs.List.{AllByRecursion as All}
+use Rattle.std.specs.List.{AllByRecursion}
 use Rattle.grammar.specs.Grammar.{Tree, named, nodes, Kind, Is, FirstBad}
 use Rattle.grammar.specs.Machine.{Frames, State, start, binder, before_dot, after, Halts}
 use Rattle.term.specs.declared.TermNode.{TermNode}
@@ -170,7 +170,7 @@ pub record Drafted (es : List Entry) (filed : ℕ) (text : List ℕ) (memory : L
   pub term : Term
   pub formula : Formula es text term
   pub only : (t : Term) → Formula es text t → t ≡ term
-  pub below : All (Filed filed) (references formula.tree)
+  pub below : AllByRecursion (Filed filed) (references formula.tree)
   pub count : n ≡ length (prefix term)
   pub few : n ≤ 1024
   pub fits : n ≤ length memory

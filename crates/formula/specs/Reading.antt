@@ -1,6 +1,6 @@
 -- What the reader of formulas answers.
 use Rattle.std.specs.Prelude.{◌≡◌, ℕ, ◌-◌, ◌<◌, ◌≤◌, List, [], ◌++◌, length, replicate}
-use Rattle.std.specs.List.{AllByRecursion as All}
+use Rattle.std.specs.List.{AllByRecursion}
 use Rattle.refusal.specs.Saying.{saying}
 use Rattle.refusal.specs.declared.Layer.TheVariants as layer
 use Rattle.refusal.specs.declared.Refusal.{Refusal}
@@ -30,7 +30,7 @@ pub record Accepted (es : List Entry) (filed : ℕ) (text : List ℕ) (memory : 
   pub term : Term
   pub formula : Formula es text term
   pub only : (t : Term) → Formula es text t → t ≡ term
-  pub below : All (Filed filed) (references formula.tree)
+  pub below : AllByRecursion (Filed filed) (references formula.tree)
   pub count : n ≡ length (prefix term)
   pub few : n ≤ 1024
   pub fits : n ≤ length memory
@@ -45,4 +45,4 @@ pub data Refuses (es : List Entry) (filed : ℕ) (text : List ℕ) (room : ℕ) 
   too_many_nodes : {t : Tree} → Parses text t → 1024 < nodes t → Refuses es filed text room (saying 22 layer.Formula 0)
   no_room : {t : Tree} → Parses text t → nodes t ≤ 1024 → room < nodes t → Refuses es filed text room (saying 23 layer.Formula 0)
   unknown : {t : Tree} {p : ℕ} → Parses text t → nodes t ≤ 1024 → nodes t ≤ room → FirstNot (Known es) (λ u. u.at) (uses [] t) p → Refuses es filed text room (saying 24 layer.Formula p)
-  not_filed : {t : Tree} {p : ℕ} → Parses text t → nodes t ≤ 1024 → nodes t ≤ room → All (Known es) (uses [] t) → FirstNot (Filed filed) (λ r. r.at) (references t) p → Refuses es filed text room (saying 25 layer.Formula p)
+  not_filed : {t : Tree} {p : ℕ} → Parses text t → nodes t ≤ 1024 → nodes t ≤ room → AllByRecursion (Known es) (uses [] t) → FirstNot (Filed filed) (λ r. r.at) (references t) p → Refuses es filed text room (saying 25 layer.Formula p)

@@ -1,6 +1,6 @@
 -- What a normal list says of its types.
 use Rattle.std.proofs.Common.{◌≡◌, ℕ, zero, suc, ◌+◌, ◌-◌, ◌<◌, ◌≤◌, Bool, true, false, cond, ◌||◌, eqb, List, [], ◌∷◌, ◌++◌, map, length, get_or, take, sym, refl, ap, ◌∙◌, subst, ap₂, ⊎_elim, arith}
-use Rattle.std.specs.List.{AllByRecursion as All}
+use Rattle.std.specs.List.{AllByRecursion}
 use Rattle.std.proofs.lemmas.List.{append-nil, append_assoc, length_push, length-map, get_or-map, map-append, take_at}
 use Rattle.std.proofs.ByRecursion.{All-weaker, All-append, All-push}
 use Rattle.std.proofs.lemmas.Bool.{both_ways, cases_Bool, eqb-true}
@@ -64,7 +64,7 @@ simple_proper (branch k a b) s = (omega (arith, s.0), simple_proper a s.1, simpl
 abbrev Each : (Ty → Type 0) → List Ty → Type 0
 Each P ps = (u : Ty) → has ps u ≡ true → P u
 
-each_firsts : (P : Ty → Type 0) (xs ps : List Ty) → All P xs → Each P ps → Each P (firsts ps xs)
+each_firsts : (P : Ty → Type 0) (xs ps : List Ty) → AllByRecursion P xs → Each P ps → Each P (firsts ps xs)
 each_firsts P [] ps a e = e
 each_firsts P (x ∷ xs) ps a e =
     each_firsts P xs (add ps x) a.1
@@ -73,12 +73,12 @@ each_firsts P (x ∷ xs) ps a e =
 each_none : (P : Ty → Type 0) → Each P []
 each_none P u e = absurd (both_ways false refl e)
 
-modest_postorder : (t : Ty) → Simple t → All Modest (postorder t)
+modest_postorder : (t : Ty) → Simple t → AllByRecursion Modest (postorder t)
 modest_postorder (variable i) s = (tt, tt)
 modest_postorder (base c) s = (s, tt)
 modest_postorder (branch k x y) s = All-append Modest (postorder x) (postorder y ++ (branch k x y ∷ [])) (modest_postorder x s.1) (All-push Modest (postorder y) (branch k x y) (modest_postorder y s.2) s.0)
 
-modest_postorders : (ts : List Ty) → All Simple ts → All Modest (postorders ts)
+modest_postorders : (ts : List Ty) → AllByRecursion Simple ts → AllByRecursion Modest (postorders ts)
 modest_postorders [] s = tt
 modest_postorders (t ∷ ts) s = All-append Modest (postorder t) (postorders ts) (modest_postorder t s.0) (modest_postorders ts s.1)
 
@@ -89,7 +89,7 @@ lawful_record b few (base c) m s = record { kinds = omega arith; leaf = λ h. re
 lawful_record b few (branch k x y) m s =
     record { kinds = omega arith; leaf = λ h. absurd (omega arith); number = λ h. absurd (omega arith); code = λ h. absurd (omega arith); lower = λ h. place_below b k x y m }
 
-some_parts : (ts : List Ty) → All Proper ts → 0 < length ts → 0 < length (parts ts)
+some_parts : (ts : List Ty) → AllByRecursion Proper ts → 0 < length ts → 0 < length (parts ts)
 some_parts [] w h = absurd (omega arith)
 some_parts (t ∷ ts) w h =
     let v = visit_built t w.0 none in
@@ -138,7 +138,7 @@ size_some (variable i) = omega arith
 size_some (base c) = omega arith
 size_some (branch k a b) = omega arith
 
-small_postorder : (n : ℕ) (t : Ty) → size t ≤ n → All (λ u. size u ≤ n) (postorder t)
+small_postorder : (n : ℕ) (t : Ty) → size t ≤ n → AllByRecursion (λ u. size u ≤ n) (postorder t)
 small_postorder n (variable i) h = (h, tt)
 small_postorder n (base c) h = (h, tt)
 small_postorder n (branch k x y) h =
@@ -176,7 +176,7 @@ means_type t w =
     let ps = parts (t ∷ []) in
     ap (type_at (records ps)) (sym (last_place t)) ∙ read_numbered t (suc (place ps t)) b.0 b.1 (omega arith)
 
-pub parts_have : (ts ps : List Ty) → All Proper ts → Built ps → (k : ℕ) → k < length ts → has (firsts ps (postorders ts)) (get_or ts k (variable 0)) ≡ true
+pub parts_have : (ts ps : List Ty) → AllByRecursion Proper ts → Built ps → (k : ℕ) → k < length ts → has (firsts ps (postorders ts)) (get_or ts k (variable 0)) ≡ true
 parts_have [] ps w b k h = absurd (omega arith)
 parts_have (t ∷ ts) ps w b zero h =
     let v = visit_built t w.0 b in

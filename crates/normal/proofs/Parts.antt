@@ -1,6 +1,6 @@
 -- Lists of distinct types, each after its parts, and their records.
 use Rattle.std.proofs.Common.{◌≡◌, ℕ, zero, suc, ◌+◌, ◌<◌, ◌≤◌, Bool, true, false, cond, ◌&&◌, ◌||◌, eqb, ◌⊎◌, List, [], ◌∷◌, ◌++◌, map, length, get_or, sym, refl, ap, ◌∙◌, subst, ap₂, inl, inr, ⊎_elim, arith}
-use Rattle.std.specs.List.{AllByRecursion as All}
+use Rattle.std.specs.List.{AllByRecursion}
 use Rattle.std.proofs.lemmas.List.{append-nil, append_assoc, length_push, get_or_append_left, get_or_push, map_push}
 use Rattle.std.proofs.lemmas.Bool.{both_ways, eqb-true, eq-eqb, and_parts, and_from, or_cases, or_left, or_right, or_parts, cases_Bool, cond-true, cond-false, cases_lt}
 use Rattle.types.specs.declared.TypeNode.{TypeNode}
@@ -299,6 +299,6 @@ visit_again {ps} b (branch k x y) m =
     let q = visit_again b y r.2 in
     firsts_branch ps k x y ∙ ap (λ (l : List Ty). add (firsts l (postorder y)) t) p ∙ ap (λ (l : List Ty). add l t) q ∙ add_old ps t m
 
-pub parts_built : (ts : List Ty) {ps : List Ty} → All Proper ts → Built ps → Built (firsts ps (postorders ts))
+pub parts_built : (ts : List Ty) {ps : List Ty} → AllByRecursion Proper ts → Built ps → Built (firsts ps (postorders ts))
 parts_built [] a b = b
 parts_built (t ∷ ts) {ps} a b = subst Built (sym (firsts_append ps (postorder t) (postorders ts))) (parts_built ts a.1 (visit_built t a.0 b).0)

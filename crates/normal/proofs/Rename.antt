@@ -1,6 +1,6 @@
 -- Renamings keep the normal list.
 use Rattle.std.proofs.Common.{◌≡◌, ℕ, suc, Bool, true, cond, ◌||◌, eqb, List, [], ◌∷◌, ◌++◌, map, sym, refl, ap, ◌∙◌, subst, ap₂, arith}
-use Rattle.std.specs.List.{AllByRecursion as All}
+use Rattle.std.specs.List.{AllByRecursion}
 use Rattle.std.proofs.lemmas.List.{map-append, map_push}
 use Rattle.std.proofs.ByRecursion.{All-append, All-push}
 use Rattle.std.proofs.lemmas.Bool.Decides.{same_from_decides}
@@ -34,7 +34,7 @@ module _ (ρ σ : ℕ → Ty) where
   back_right : (k : ℕ) (x y : Ty) → Back (branch k x y) → Back y
   back_right k x y e = cc
 
-  all_back : (t : Ty) → Back t → All Back (postorder t)
+  all_back : (t : Ty) → Back t → AllByRecursion Back (postorder t)
   all_back (variable i) b = (b, tt)
   all_back (base c) b = (b, tt)
   all_back (branch k x y) b = All-append Back (postorder x) (postorder y ++ (branch k x y ∷ [])) (all_back x (back_left k x y b)) (All-push Back (postorder y) (branch k x y) (all_back y (back_right k x y b)) b)
@@ -54,15 +54,15 @@ module _ (ρ σ : ℕ → Ty) where
       (λ e. sym bp ∙ ap (apply σ) (same_true (apply ρ p) (apply ρ t) e) ∙ bt, λ e. subst (λ (u : Ty). same (apply ρ p) (apply ρ u) ≡ true) e (same_refl (apply ρ p)))
       (same_true p t, λ e. subst (λ (u : Ty). same p u ≡ true) e (same_refl p))
 
-  has_back : (ps : List Ty) (t : Ty) → All Back ps → Back t → has (map (apply ρ) ps) (apply ρ t) ≡ has ps t
+  has_back : (ps : List Ty) (t : Ty) → AllByRecursion Back ps → Back t → has (map (apply ρ) ps) (apply ρ t) ≡ has ps t
   has_back [] t a b = refl
   has_back (p ∷ ps) t a b = ap₂ (λ (x y : Bool). x || y) (same_back p t a.0 b) (has_back ps t a.1 b)
 
-  place_back : (ps : List Ty) (t : Ty) → All Back ps → Back t → place (map (apply ρ) ps) (apply ρ t) ≡ place ps t
+  place_back : (ps : List Ty) (t : Ty) → AllByRecursion Back ps → Back t → place (map (apply ρ) ps) (apply ρ t) ≡ place ps t
   place_back [] t a b = refl
   place_back (p ∷ ps) t a b = ap₂ (λ (x : Bool) (n : ℕ). cond x 0 (suc n)) (same_back p t a.0 b) (place_back ps t a.1 b)
 
-  rank_back : (ps : List Ty) (i j : ℕ) → All Back ps → Back (variable i) → ρ i ≡ variable j → rank (map (apply ρ) ps) j ≡ rank ps i
+  rank_back : (ps : List Ty) (i j : ℕ) → AllByRecursion Back ps → Back (variable i) → ρ i ≡ variable j → rank (map (apply ρ) ps) j ≡ rank ps i
   rank_back [] i j a b e = refl
   rank_back (variable k ∷ ps) i j a b e =
       let v = variable_from (ρ k) k a.0 in
@@ -71,7 +71,7 @@ module _ (ρ σ : ℕ → Ty) where
   rank_back (base c ∷ ps) i j a b e = rank_back ps i j a.1 b e
   rank_back (branch k x y ∷ ps) i j a b e = rank_back ps i j a.1 b e
 
-  record_back : (ps : List Ty) (t : Ty) → All Back ps → Back t → record_of (map (apply ρ) ps) (apply ρ t) ≡ record_of ps t
+  record_back : (ps : List Ty) (t : Ty) → AllByRecursion Back ps → Back t → record_of (map (apply ρ) ps) (apply ρ t) ≡ record_of ps t
   record_back ps (variable i) a b =
       let v = variable_from (ρ i) i b in
       subst (λ (u : Ty). record_of (map (apply ρ) ps) u ≡ record_of ps (variable i)) (sym v.1) (ap (λ (n : ℕ). node 0 n 0) (rank_back ps i v.0 a b v.1))
@@ -79,24 +79,24 @@ module _ (ρ σ : ℕ → Ty) where
   record_back ps (branch k x y) a b =
       ap₂ (node k) (place_back ps x a (back_left k x y b)) (place_back ps y a (back_right k x y b))
 
-  nodes_back : (ps xs : List Ty) → All Back ps → All Back xs → map (record_of (map (apply ρ) ps)) (map (apply ρ) xs) ≡ map (record_of ps) xs
+  nodes_back : (ps xs : List Ty) → AllByRecursion Back ps → AllByRecursion Back xs → map (record_of (map (apply ρ) ps)) (map (apply ρ) xs) ≡ map (record_of ps) xs
   nodes_back ps [] a b = refl
   nodes_back ps (x ∷ xs) a b = ap₂ (λ (y : TypeNode) (ys : List TypeNode). y ∷ ys) (record_back ps x a b.0) (nodes_back ps xs a b.1)
 
-  add_back : (ps : List Ty) (x : Ty) → All Back ps → Back x → (add (map (apply ρ) ps) (apply ρ x) ≡ map (apply ρ) (add ps x)) × All Back (add ps x)
+  add_back : (ps : List Ty) (x : Ty) → AllByRecursion Back ps → Back x → (add (map (apply ρ) ps) (apply ρ x) ≡ map (apply ρ) (add ps x)) × AllByRecursion Back (add ps x)
   add_back ps x a b =
-      by_add (λ qs. (add (map (apply ρ) ps) (apply ρ x) ≡ map (apply ρ) qs) × All Back qs) ps x
+      by_add (λ qs. (add (map (apply ρ) ps) (apply ρ x) ≡ map (apply ρ) qs) × AllByRecursion Back qs) ps x
       (λ m. (add_old (map (apply ρ) ps) (apply ρ x) (has_back ps x a b ∙ m), a))
       (λ m. (add_new (map (apply ρ) ps) (apply ρ x) (has_back ps x a b ∙ m) ∙ sym (map_push (apply ρ) ps x), All-push Back ps x a b))
 
-  firsts_back : (xs ps : List Ty) → All Back ps → All Back xs → (firsts (map (apply ρ) ps) (map (apply ρ) xs) ≡ map (apply ρ) (firsts ps xs)) × All Back (firsts ps xs)
+  firsts_back : (xs ps : List Ty) → AllByRecursion Back ps → AllByRecursion Back xs → (firsts (map (apply ρ) ps) (map (apply ρ) xs) ≡ map (apply ρ) (firsts ps xs)) × AllByRecursion Back (firsts ps xs)
   firsts_back [] ps a b = (refl, a)
   firsts_back (x ∷ xs) ps a b =
       let p = add_back ps x a b.0 in
       let q = firsts_back xs (add ps x) p.1 b.1 in
       (ap (λ (l : List Ty). firsts l (map (apply ρ) xs)) p.0 ∙ q.0, q.1)
 
-  lists_back : (ts : List Ty) → map (apply σ) (map (apply ρ) ts) ≡ ts → (postorders (map (apply ρ) ts) ≡ map (apply ρ) (postorders ts)) × All Back (postorders ts)
+  lists_back : (ts : List Ty) → map (apply σ) (map (apply ρ) ts) ≡ ts → (postorders (map (apply ρ) ts) ≡ map (apply ρ) (postorders ts)) × AllByRecursion Back (postorders ts)
   lists_back [] e = (refl, tt)
   lists_back (t ∷ ts) e =
       let b : Back t = cc in

@@ -1,6 +1,6 @@
 -- What normal lists say, and when two are one.
 use Rattle.std.specs.Prelude.{◌≡◌, ℕ, ◌<◌, ◌≤◌, List, [], ◌∷◌, ◌++◌, map, length, get_or, take, slice_index_or}
-use Rattle.std.specs.List.{AllByRecursion as All}
+use Rattle.std.specs.List.{AllByRecursion}
 use Rattle.types.specs.declared.TypeNode.{TypeNode}
 use Rattle.types.specs.Types.{Ty, variable, base, branch, arrow, apply, Instance}
 use Rattle.types.specs.Lists.{node, zero_node, Lawful, type_at, meaning}
@@ -36,17 +36,17 @@ Renamed t u = (f : ℕ → ℕ) × (g : ℕ → ℕ) × (apply (λ i. variable (
 
 -- A normal list has no two equal records, and parts stand below their wholes.
 abbrev pub NormalOnce : Type 0
-NormalOnce = (ts : List Ty) → All Proper ts → Once (normal ts) × Lower (normal ts)
+NormalOnce = (ts : List Ty) → AllByRecursion Proper ts → Once (normal ts) × Lower (normal ts)
 
 -- A normal list of simple types, up to 4,096 records long, is lawful.
 abbrev pub NormalLawful : Type 0
-NormalLawful = (ts : List Ty) → All Simple ts → 0 < length ts → length (normal ts) ≤ 4096 → Lawful (normal ts)
+NormalLawful = (ts : List Ty) → AllByRecursion Simple ts → 0 < length ts → length (normal ts) ≤ 4096 → Lawful (normal ts)
 
 -- It means its types, up to the numbers of their variables.
 abbrev pub NormalMeans : Type 0
 NormalMeans =
     ((t : Ty) → Proper t → meaning (normal_of t) ≡ numbered (t ∷ []) t)
-    × ((ts : List Ty) (k : ℕ) → All Proper ts → k < length ts → type_at (normal ts) (place (parts ts) (slice_index_or ts k (variable 0))) ≡ numbered ts (slice_index_or ts k (variable 0)))
+    × ((ts : List Ty) (k : ℕ) → AllByRecursion Proper ts → k < length ts → type_at (normal ts) (place (parts ts) (slice_index_or ts k (variable 0))) ≡ numbered ts (slice_index_or ts k (variable 0)))
 
 -- Types renamed together have the same normal list.
 abbrev pub RenamingKeepsList : Type 0
@@ -64,7 +64,7 @@ OneListIffMutual =
 -- Several types with one normal list, each at its fellow's place in it, are renamed together.
 abbrev pub OneListRenames : Type 0
 OneListRenames =
-    (ts us : List Ty) → All Proper ts → All Proper us → length ts ≡ length us → normal ts ≡ normal us
+    (ts us : List Ty) → AllByRecursion Proper ts → AllByRecursion Proper us → length ts ≡ length us → normal ts ≡ normal us
     → ((k : ℕ) → k < length ts → place (parts ts) (slice_index_or ts k (variable 0)) ≡ place (parts us) (slice_index_or us k (variable 0)))
     → (ρ : ℕ → Ty) × ((k : ℕ) → k < length ts → apply ρ (slice_index_or ts k (variable 0)) ≡ slice_index_or us k (variable 0))
 
@@ -74,7 +74,7 @@ PlacesAreTypes = (l : List TypeNode) → Lawful l → Once l → (p q : ℕ) →
 
 -- The normal list of some types begins that of these and more.
 abbrev pub NormalBegins : Type 0
-NormalBegins = (ts us : List Ty) → All Proper ts → take (length (normal ts)) (normal (ts ++ us)) ≡ normal ts
+NormalBegins = (ts us : List Ty) → AllByRecursion Proper ts → take (length (normal ts)) (normal (ts ++ us)) ≡ normal ts
 
 -- The normal list of what a normal list means is that list.
 abbrev pub NormalAgain : Type 0

@@ -1,6 +1,6 @@
 -- The questions that a text is asked one after the other: the first that it answers with no is one, at one place.
 use Rattle.std.proofs.Common.{◌≡◌, ℕ, ◌<◌, ◌≤◌, List, [], ◌∷◌, length, sym, refl, ap, ◌∙◌, subst, arith}
-use Rattle.std.specs.List.{AllByRecursion as All}
+use Rattle.std.specs.List.{AllByRecursion}
 use Rattle.refusal.specs.Saying.{saying}
 use Rattle.refusal.specs.declared.Layer.TheVariants as layer
 use Rattle.refusal.specs.declared.Refusal.{Refusal}
@@ -43,8 +43,8 @@ module _ (es : List Entry) (filed : ℕ) (text : List ℕ) (room : ℕ) where
   Passes expression = (t : Tree) × Parses text t
   Passes few_nodes = (t : Tree) × Parses text t × (nodes t ≤ 1024)
   Passes with_room = (t : Tree) × Parses text t × (nodes t ≤ room)
-  Passes all_known = (t : Tree) × Parses text t × All (Known es) (uses [] t)
-  Passes all_filed = (t : Tree) × Parses text t × All (Filed filed) (references t)
+  Passes all_known = (t : Tree) × Parses text t × AllByRecursion (Known es) (uses [] t)
+  Passes all_filed = (t : Tree) × Parses text t × AllByRecursion (Filed filed) (references t)
 
   abbrev Fails : Question → ℕ → Type 0
   Fails all_tokens p = NotAllTokens text p
@@ -66,9 +66,9 @@ module _ (es : List Entry) (filed : ℕ) (text : List ℕ) (room : ℕ) where
       not_expression f.0 (length text) p f.2 (y.0, subst (λ ts. Is an_expression ts y.0) same y.1.is)
   apart few_nodes p f y = let h = of_tree (λ t. nodes t ≤ 1024) y.0 f.0 y.1 f.1 y.2 in omega (arith, f.2)
   apart with_room p f y = let h = of_tree (λ t. nodes t ≤ room) y.0 f.0 y.1 f.1 y.2 in omega (arith, f.2)
-  apart all_known p f y = not_all (Known es) (λ (u : Use). u.at) (uses [] f.0) p f.2 (of_tree (λ t. All (Known es) (uses [] t)) y.0 f.0 y.1 f.1 y.2)
+  apart all_known p f y = not_all (Known es) (λ (u : Use). u.at) (uses [] f.0) p f.2 (of_tree (λ t. AllByRecursion (Known es) (uses [] t)) y.0 f.0 y.1 f.1 y.2)
   apart all_filed p f y =
-      not_all (Filed filed) (λ (r : Reference). r.at) (references f.0) p f.2 (of_tree (λ t. All (Filed filed) (references t)) y.0 f.0 y.1 f.1 y.2)
+      not_all (Filed filed) (λ (r : Reference). r.at) (references f.0) p f.2 (of_tree (λ t. AllByRecursion (Filed filed) (references t)) y.0 f.0 y.1 f.1 y.2)
 
   -- and with no at one place only
   one_place : (q : Question) (p p' : ℕ) → Fails q p → Fails q p' → p ≡ p'
@@ -95,7 +95,7 @@ module _ (es : List Entry) (filed : ℕ) (text : List ℕ) (room : ℕ) where
   one_no (later y r) (now {q = a} {p = p} g) = absurd (apart a p g y)
   one_no (later y r) (later z s) = one_no r s
 
-  no_no : {qs : List Question} {a : Question} {p : ℕ} → All Passes qs → FirstNo qs a p → ⊥
+  no_no : {qs : List Question} {a : Question} {p : ℕ} → AllByRecursion Passes qs → FirstNo qs a p → ⊥
   no_no h (now {q = a} {p = p} f) = apart a p f h.0
   no_no h (later y r) = no_no h.1 r
 
@@ -123,5 +123,5 @@ module _ (es : List Entry) (filed : ℕ) (text : List ℕ) (room : ℕ) where
   one_refusal a b = let x = told a in let y = told b in sym x.says ∙ one_no x.first y.first ∙ y.says
 
   -- a text that passes all questions is not refused
-  pub not_refused : {r : Refusal} (t : Tree) → Parses text t → nodes t ≤ 1024 → nodes t ≤ room → All (Known es) (uses [] t) → All (Filed filed) (references t) → Refuses es filed text room r → ⊥
+  pub not_refused : {r : Refusal} (t : Tree) → Parses text t → nodes t ≤ 1024 → nodes t ≤ room → AllByRecursion (Known es) (uses [] t) → AllByRecursion (Filed filed) (references t) → Refuses es filed text room r → ⊥
   not_refused t p few fits known filed' a = no_no (read p, ((t, p), ((t, p, few), ((t, p, fits), ((t, p, known), ((t, p, filed'), tt)))))) (told a).first

@@ -1,6 +1,6 @@
 -- Two splits of one list, and the first item that a question fails of, or the first token that cannot follow.
 use Rattle.std.proofs.Common.{◌≡◌, ℕ, List, [], ◌∷◌, ◌++◌, sym, refl, ap, ◌∙◌, subst, append_assoc, append-nil}
-use Rattle.std.specs.List.{AllByRecursion as All}
+use Rattle.std.specs.List.{AllByRecursion}
 use Rattle.text.specs.Tokens.{Token}
 use Rattle.grammar.specs.Grammar.{Is, expression, Expression, CanContinue, place, FirstBad}
 use Rattle.grammar.proofs.Halting.{back}
@@ -27,20 +27,20 @@ splits (x ∷ a) b (y ∷ c) d e =
     under x y a b c d head (splits a b c d tail)
 
 module _ {A : Type 0} (P : A → Type 0) where
-  pub all_left : (xs ys : List A) → All P (xs ++ ys) → All P xs
+  pub all_left : (xs ys : List A) → AllByRecursion P (xs ++ ys) → AllByRecursion P xs
   all_left [] ys h = tt
   all_left (x ∷ xs) ys h = (h.0, all_left xs ys h.1)
 
-  pub all_right : (xs ys : List A) → All P (xs ++ ys) → All P ys
+  pub all_right : (xs ys : List A) → AllByRecursion P (xs ++ ys) → AllByRecursion P ys
   all_right [] ys h = h
   all_right (x ∷ xs) ys h = all_right xs ys h.1
 
   -- P holds of an item that stands among those that it holds of
-  among : (xs : List A) (x : A) (ys zs : List A) → zs ≡ xs ++ (x ∷ ys) → All P zs → P x
-  among xs x ys zs e h = (all_right xs (x ∷ ys) (subst (All P) e h)).0
+  among : (xs : List A) (x : A) (ys zs : List A) → zs ≡ xs ++ (x ∷ ys) → AllByRecursion P zs → P x
+  among xs x ys zs e h = (all_right xs (x ∷ ys) (subst (AllByRecursion P) e h)).0
 
   module _ (at : A → ℕ) (xs : List A) where
-    pub not_all : (p : ℕ) → FirstNot P at xs p → All P xs → ⊥
+    pub not_all : (p : ℕ) → FirstNot P at xs p → AllByRecursion P xs → ⊥
     not_all p f h = f.fails (among f.before f.item f.rest xs f.split h)
 
     apart : (p q : ℕ) (f : FirstNot P at xs p) (g : FirstNot P at xs q) → Splits f.before (f.item ∷ f.rest) g.before (g.item ∷ g.rest) → p ≡ q

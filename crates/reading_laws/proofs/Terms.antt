@@ -1,6 +1,6 @@
 -- What holds of a term holds of the tree that it comes from.
 use Rattle.std.proofs.Common.{ℕ, List, length, inl, inr}
-use Rattle.std.specs.List.{AllByRecursion as All}
+use Rattle.std.specs.List.{AllByRecursion}
 use Rattle.std.proofs.ByRecursion.{All-append}
 use Rattle.term.specs.Terms.{Term}
 use Rattle.catalogue.specs.Names.{Name}
@@ -19,7 +19,7 @@ resolved_closed (binds r) = resolved_closed r
 resolved_closed (applies r s) = (resolved_closed r, resolved_closed s)
 
 -- each name is known
-pub resolved_known : {es : List Entry} {scope : List Name} {t : Tree} {u : Term} → Resolves es scope t u → All (Known es) (uses scope t)
+pub resolved_known : {es : List Entry} {scope : List Name} {t : Tree} {u : Term} → Resolves es scope t u → AllByRecursion (Known es) (uses scope t)
 resolved_known (bound {k = k} b) = (inl (k, b), tt)
 resolved_known (entered {k = k} n l) = (inr (k, l.0), tt)
 resolved_known refers = tt
@@ -28,14 +28,14 @@ resolved_known {es} (applies r s) = All-append (Known es) _ _ (resolved_known r)
 
 module _ (filed : ℕ) where
   -- the references are the same
-  pub below_from_filed : {es : List Entry} {scope : List Name} {t : Tree} {u : Term} → Resolves es scope t u → All (Filed filed) (references t) → Below filed u
+  pub below_from_filed : {es : List Entry} {scope : List Name} {t : Tree} {u : Term} → Resolves es scope t u → AllByRecursion (Filed filed) (references t) → Below filed u
   below_from_filed (bound b) h = tt
   below_from_filed (entered n l) h = tt
   below_from_filed refers h = h.0
   below_from_filed (binds r) h = below_from_filed r h
   below_from_filed (applies r s) h = (below_from_filed r (all_left (Filed filed) _ _ h), below_from_filed s (all_right (Filed filed) _ _ h))
 
-  pub filed_from_below : {es : List Entry} {scope : List Name} {t : Tree} {u : Term} → Resolves es scope t u → Below filed u → All (Filed filed) (references t)
+  pub filed_from_below : {es : List Entry} {scope : List Name} {t : Tree} {u : Term} → Resolves es scope t u → Below filed u → AllByRecursion (Filed filed) (references t)
   filed_from_below (bound b) h = tt
   filed_from_below (entered n l) h = tt
   filed_from_below refers h = (h, tt)

@@ -1,6 +1,6 @@
 -- The laws of reading a text as a formula.
 use Rattle.std.specs.Prelude.{◌≡◌, ℕ, ◌≤◌, List, length}
-use Rattle.std.specs.List.{AllByRecursion as All}
+use Rattle.std.specs.List.{AllByRecursion}
 use Rattle.refusal.specs.declared.Refusal.{Refusal}
 use Rattle.term.specs.Terms.{Term, prefix}
 use Rattle.catalogue.specs.Entries.{Entry}
@@ -30,4 +30,4 @@ FormulaIsClosed = (es : List Entry) (text : List ℕ) (t : Term) → Formula es 
 abbrev pub ReferencesAreBelow : Type 0
 ReferencesAreBelow =
     (es : List Entry) (filed : ℕ) (text : List ℕ) (t : Term) (f : Formula es text t)
-    → (All (Filed filed) (references f.tree) → Below filed t) × (Below filed t → All (Filed filed) (references f.tree))
+    → (AllByRecursion (Filed filed) (references f.tree) → Below filed t) × (Below filed t → AllByRecursion (Filed filed) (references f.tree))

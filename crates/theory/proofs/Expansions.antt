@@ -1,6 +1,6 @@
 -- Expansions are closed and without references, and stay when rows are added.
 use Rattle.std.proofs.Common.{◌≡◌, ℕ, suc, ◌<◌, ◌≤◌, List, ◌++◌, length, refl, ap, ap₂, ⊎_elim, arith}
-use Rattle.std.specs.List.{AllByRecursion as All}
+use Rattle.std.specs.List.{AllByRecursion}
 use Rattle.std.proofs.lemmas.List.{get_or_append_left, get_or_past}
 use Rattle.std.proofs.ByRecursion.{All-get_or}
 use Rattle.std.proofs.lemmas.Bool.{cases_lt}
@@ -25,21 +25,21 @@ below_more (primitive p) k m h b = tt
 below_more (reference n) k m h b = omega arith
 
 module _ (xs : List Term) where
-  row_closed : All (Closed 0) xs → (n d : ℕ) → Closed d (row xs n)
+  row_closed : AllByRecursion (Closed 0) xs → (n d : ℕ) → Closed d (row xs n)
   row_closed all n d =
       ⊎_elim
       (λ (h : n < length xs). closed_more (row xs n) 0 d (omega arith) (All-get_or (Closed 0) xs n (reference n) h all))
       (λ (h : length xs ≤ n). rw (get_or_past xs n (reference n) h) tt)
       (cases_lt n (length xs))
 
-  expand_closed : All (Closed 0) xs → (t : Term) (d : ℕ) → Closed d t → Closed d (expand xs t)
+  expand_closed : AllByRecursion (Closed 0) xs → (t : Term) (d : ℕ) → Closed d t → Closed d (expand xs t)
   expand_closed all (variable n) d c = c
   expand_closed all (abstraction b) d c = expand_closed all b (suc d) c
   expand_closed all (application f a) d c = (expand_closed all f d c.0, expand_closed all a d c.1)
   expand_closed all (primitive k) d c = tt
   expand_closed all (reference n) d c = row_closed all n d
 
-  expand_whole : All (Below 0) xs → (t : Term) → Below (length xs) t → Below 0 (expand xs t)
+  expand_whole : AllByRecursion (Below 0) xs → (t : Term) → Below (length xs) t → Below 0 (expand xs t)
   expand_whole all (variable n) b = tt
   expand_whole all (abstraction x) b = expand_whole all x b
   expand_whole all (application f a) b = (expand_whole all f b.0, expand_whole all a b.1)

@@ -1,6 +1,6 @@
 -- A formula typed by instances of kept types has exactly the types of its expansion.
 use Rattle.std.proofs.Common.{◌≡◌, ℕ, ◌<◌, ◌≤◌, List, [], ◌∷◌, ◌++◌, length, sym, subst, ⊎_elim, arith}
-use Rattle.std.specs.List.{AllByRecursion as All}
+use Rattle.std.specs.List.{AllByRecursion}
 use Rattle.std.proofs.lemmas.List.{length-append, get_or_append_left, get_or_default, get_or_push}
 use Rattle.std.proofs.ByRecursion.{All-from_get_or}
 use Rattle.std.proofs.lemmas.Bool.{cases_lt}
@@ -43,7 +43,7 @@ module _ (E : Lists) (xs : List Term) (K : Lists) (kept : Kept E xs K) where
   collapsed (primitive k) Γ τ b d = d
   collapsed (reference n) Γ τ b d = (types_of_rows E (row xs n) (K n) (kept n b) Γ τ).1 d
 
-  pub kept_closed : All (Closed 0) xs
+  pub kept_closed : AllByRecursion (Closed 0) xs
   kept_closed = All-from_get_or (Closed 0) xs (variable 0) (λ n h. subst (Closed 0) (get_or_default xs n (reference n) (variable 0) h) (kept n h).closed)
 
 pub types_of_expansions : TypesOfExpansions

@@ -1,6 +1,6 @@
 -- The laws of types, expansions and principal types.
 use Rattle.std.specs.Prelude.{◌≡◌, ℕ, ◌<◌, ◌≤◌, List, [], ◌∷◌, ◌++◌, map, length}
-use Rattle.std.specs.List.{AllByRecursion as All}
+use Rattle.std.specs.List.{AllByRecursion}
 use Rattle.types.specs.declared.TypeNode.{TypeNode}
 use Rattle.types.specs.Types.{Ty, apply, Instance}
 use Rattle.types.specs.Lists.{Lawful, meaning}
@@ -40,10 +40,10 @@ LaterRowsIdle = (E K L : Lists) (k : ℕ) (Γ : List Ty) (t : Term) (τ : Ty) �
 
 -- An expansion is closed and without references.
 abbrev pub ExpansionsClosed : Type 0
-ExpansionsClosed = (xs : List Term) (d : ℕ) (t : Term) → All (Closed 0) xs → Closed d t → Closed d (expand xs t)
+ExpansionsClosed = (xs : List Term) (d : ℕ) (t : Term) → AllByRecursion (Closed 0) xs → Closed d t → Closed d (expand xs t)
 
 abbrev pub ExpansionsWhole : Type 0
-ExpansionsWhole = (xs : List Term) (t : Term) → All (Below 0) xs → Below (length xs) t → Below 0 (expand xs t)
+ExpansionsWhole = (xs : List Term) (t : Term) → AllByRecursion (Below 0) xs → Below (length xs) t → Below 0 (expand xs t)
 
 -- Rows filed later leave it as it is.
 abbrev pub ExpansionsLast : Type 0

@@ -1,6 +1,6 @@
 -- A principal typing with its variables numbered anew is principal; its list begins with that of the root's type.
 use Rattle.std.proofs.Common.{◌≡◌, ℕ, ◌+◌, ◌-◌, ◌<◌, ◌≤◌, List, [], ◌∷◌, ◌++◌, map, length, get_or, take, drop, replicate, sym, refl, ap, ◌∙◌, subst, ap₂, ⊎_elim, arith}
-use Rattle.std.specs.List.{AllByRecursion as All}
+use Rattle.std.specs.List.{AllByRecursion}
 use Rattle.std.proofs.lemmas.List.{length-map, get_or-map, ext_get_or, take_all, get_or_append_left, get_or-append_right, get_or-replicate, get_or_past}
 use Rattle.std.proofs.ByRecursion.{All-from_get_or}
 use Rattle.std.proofs.lemmas.Bool.{cases_lt}
@@ -25,7 +25,7 @@ use Rattle.typer.specs.Derivations.{DerivedNodes}
 use Rattle.typer.proofs.Mapped.{typing_mapped, list_applied, principal_type, principal_simple}
 use Rattle.typer.proofs.Wholes.{zeros_behind}
 
-module _ (E K : Lists) (t : Term) (us : List Ty) (proper : All Proper us) (long : length us ≡ size t) (d : PrincipalTyping E K t (of us)) where
+module _ (E K : Lists) (t : Term) (us : List Ty) (proper : AllByRecursion Proper us) (long : length us ≡ size t) (d : PrincipalTyping E K t (of us)) where
   -- the types as the list has them
   pub numbered_principal : (T : ℕ → Ty) → ((p : ℕ) → p < size t → T p ≡ numbered us (of us p)) → PrincipalTyping E K t T
   numbered_principal T e =
@@ -43,17 +43,17 @@ module _ (E K : Lists) (t : Term) (us : List Ty) (proper : All Proper us) (long 
             );
       }
 
-  simple : ((k : ℕ) → 0 < length (E k) → Lawful (E k)) → ((k : ℕ) → 0 < length (K k) → Lawful (K k)) → All Simple us
+  simple : ((k : ℕ) → 0 < length (E k) → Lawful (E k)) → ((k : ℕ) → 0 < length (K k) → Lawful (K k)) → AllByRecursion Simple us
   simple we wk = All-from_get_or Simple us (variable 0) (λ p h. principal_simple E K t (of us) d we wk p (omega arith))
 
   pub derivation_lawful : ((k : ℕ) → 0 < length (E k) → Lawful (E k)) → ((k : ℕ) → 0 < length (K k) → Lawful (K k)) → length (normal us) ≤ 4096 → Lawful (normal us)
   derivation_lawful we wk few = let s = some_node t in normal_lawful us (simple we wk) (omega arith) few
 
-begins_with : (us : List Ty) → 0 < length us → All Proper us → take (length (normal_of (of us 0))) (normal us) ≡ normal_of (of us 0)
+begins_with : (us : List Ty) → 0 < length us → AllByRecursion Proper us → take (length (normal_of (of us 0))) (normal us) ≡ normal_of (of us 0)
 begins_with [] h w = absurd (omega arith)
 begins_with (u ∷ us) h w = normal_begins (u ∷ []) us (w.0, tt)
 
-pub derivation_begins : (E K : Lists) (t : Term) (us : List Ty) → 0 < length us → All Proper us → PrincipalType E K t (of us 0) → (τ : Ty) → PrincipalType E K t τ → take (length (normal_of τ)) (normal us) ≡ normal_of τ
+pub derivation_begins : (E K : Lists) (t : Term) (us : List Ty) → 0 < length us → AllByRecursion Proper us → PrincipalType E K t (of us 0) → (τ : Ty) → PrincipalType E K t τ → take (length (normal_of τ)) (normal us) ≡ normal_of τ
 derivation_begins E K t us h w p τ q =
     let same : normal_of (of us 0) ≡ normal_of τ = mutual_keeps_list (of us 0) τ (p.general τ q.type) (q.general (of us 0) p.type) in
     subst (λ (l : List TypeNode). take (length l) (normal us) ≡ l) same (begins_with us h w)

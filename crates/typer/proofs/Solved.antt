@@ -1,7 +1,7 @@
 -- The graph that inference built, and its most general solution: the types of the term's nodes.
 use Rattle.std.proofs.Common.{◌≡◌, ℕ, ◌+◌, ◌-◌, ◌<◌, ◌≤◌, List, [], ◌∷◌, ◌++◌, map, length, get_or, take, replicate, sym, refl, ap, ◌∙◌, subst, ap₂, arith}
 use lib.ListN.{length-replicate}
-use Rattle.std.specs.List.{AllByRecursion as All}
+use Rattle.std.specs.List.{AllByRecursion}
 use Rattle.std.proofs.lemmas.List.{length-map, length-append, length-take-le, get_or-map, get_or-take, take-map}
 use Rattle.std.proofs.ByRecursion.{All-from_get_or}
 use Rattle.types.specs.declared.TypeNode.{TypeNode}
@@ -54,7 +54,7 @@ module _ (E K : Lists) (ts : List TermNode) (ps : List ℕ) (ws : List TypeNode)
               (w.0, λ p h. let hp : p < length ts = omega arith in ap (apply w.0) (type_at_node p hp) ∙ l.found.general.general w.0 w.1 (get_or ps p 0) (inside p hp) ∙ w.2 p (omega arith) h);
         }
 
-    proper : All Proper types
+    proper : AllByRecursion Proper types
     unfolding types
     proper =
         All-from_get_or Proper types (variable 0)
@@ -77,7 +77,7 @@ module _ (E K : Lists) (ts : List TermNode) (ps : List ℕ) (ws : List TypeNode)
     pub within : m ≤ length memory
     within = omega (arith, ap length l.list, length-append (normal (map l.found.types (take k ps))) (replicate (length memory - m) zero_node), l.count)
 
-    front_proper : All Proper (take k types)
+    front_proper : AllByRecursion Proper (take k types)
     unfolding types
     front_proper =
         let lt : length (take k types) ≡ k = length-take-le k types (omega (arith, length-map ps l.found.types)) in

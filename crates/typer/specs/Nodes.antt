@@ -1,6 +1,6 @@
 -- The types of a term's first nodes, in their normal list.
 use Rattle.std.specs.Prelude.{◌≡◌, ℕ, ◌-◌, ◌<◌, ◌≤◌, List, ◌++◌, length, take, replicate, Some, None, Option, slice_index, slice_index_or}
-use Rattle.std.specs.List.{AllByRecursion as All}
+use Rattle.std.specs.List.{AllByRecursion}
 use Rattle.types.specs.declared.TypeNode.{TypeNode}
 use Rattle.types.specs.Types.{Ty, variable}
 use Rattle.types.specs.Lists.{zero_node}
@@ -21,7 +21,7 @@ pub record NodesListed (E K : Lists) (ts : List TermNode) (qs : List ℕ) (memor
   pub types : List Ty
   pub long : length types ≡ length ts
   pub some : 0 < length ts
-  pub proper : All Proper types
+  pub proper : AllByRecursion Proper types
   pub principal : (t : Term) → prefix t ≡ ts → PrincipalTyping E K t (of types)
   pub count : n ≡ length (normal (take (length qs) types))
   pub within : n ≤ length memory

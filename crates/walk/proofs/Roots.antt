@@ -1,6 +1,6 @@
 -- The steps from one listed node to the next.
 use Rattle.std.proofs.Common.{◌≡◌, ℕ, ◌+◌, ◌<◌, ◌≢◌, List, [], ◌∷◌, ◌++◌, map, length, get_or, set, sym, refl, ap, ◌∙◌, subst, ap₂, ⊎_elim, arith}
-use Rattle.std.specs.List.{AllByRecursion as All}
+use Rattle.std.specs.List.{AllByRecursion}
 use Rattle.std.proofs.lemmas.List.{append-nil, length-map, length_push, get_or_push, get_or_append_left, get_or-set_same, get_or-set_other}
 use Rattle.std.proofs.ByRecursion.{All-from_get_or}
 use Rattle.std.proofs.lemmas.Bool.{cases_eq}
@@ -49,7 +49,7 @@ module _ (ns : List Node) (w w' : Work) (r : ℕ → ℕ) (ps : List Ty) (i p : 
         state = subst (State ns w') (sym (firsts_push ps ts t)) e.state;
       }
 
-pub sofar_proper : (ns : List Node) (w : Work) (r : ℕ → ℕ) (ps : List Ty) (i : ℕ) → Flat ns → (s : Sofar ns w r ps i) → All Proper s.types
+pub sofar_proper : (ns : List Node) (w : Work) (r : ℕ → ℕ) (ps : List Ty) (i : ℕ) → Flat ns → (s : Sofar ns w r ps i) → AllByRecursion Proper s.types
 sofar_proper ns w r ps i flat s = All-from_get_or Proper s.types (variable 0) (λ k h. reads_proper ns flat (s.reads k (omega (arith, s.long))))
 
 pub placed_more : (ns : List Node) (w w' : Work) (r : ℕ → ℕ) (qs : List ℕ) (i p : ℕ) → Flat ns → i < length qs → (s : Sofar ns w r [] i) (x : Walked ns w w' (r i) p) → Placed qs s.types i → Placed (set qs i p) (sofar_more ns w w' r [] i p s x).types (i + 1)

@@ -1,5 +1,5 @@
 use Rattle.std.proofs.Common.{◌≡◌, refl}
-use Rattle.std.specs.List.{AllByRecursion as All}
+use Rattle.std.specs.List.{AllByRecursion}
 use Rattle.std.proofs.ByRecursion.{All-get_or}
 use Rattle.catalogue.specs.Entries.{Entry, no_entry}
 use Rattle.catalogue.specs.Table.{builtin}
@@ -11,7 +11,7 @@ abbrev IsNormal : Entry → Type 0
 IsNormal e = normal_of (meaning e.list) ≡ e.list
 
 -- computed, over the whole table
-rows : All IsNormal builtin
+rows : AllByRecursion IsNormal builtin
 rows = (refl, (refl, (refl, (refl, (refl, (refl, (refl, (refl, tt))))))))
 
 pub returns : goal.returns
