@@ -1,5 +1,5 @@
 //! With the feature `library`, links the static library `paybook` from the directory that `PAYBOOK_LIB` names, or from
-//! `target/staticlib` of the repository.
+//! `crates/paybook/out` of the repository.
 
 fn main() {
     println!("cargo:rerun-if-env-changed=PAYBOOK_LIB");
@@ -7,7 +7,7 @@ fn main() {
         return;
     }
     let home = std::env::var("CARGO_MANIFEST_DIR").unwrap_or_default();
-    let directory = std::env::var("PAYBOOK_LIB").unwrap_or_else(|_| format!("{home}/../target/staticlib"));
+    let directory = std::env::var("PAYBOOK_LIB").unwrap_or_else(|_| format!("{home}/../crates/paybook/out"));
     println!("cargo:rerun-if-changed={directory}/libpaybook.a");
     println!("cargo:rustc-link-search=native={directory}");
     println!("cargo:rustc-link-lib=paybook");
