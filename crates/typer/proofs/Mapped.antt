@@ -1,14 +1,14 @@
 -- Typings with each type changed by one map; the types of a principal typing are simple, since the lists are.
-use Rattle.std.proofs.Common.{◌≡◌, ℕ, zero, suc, ◌+◌, ◌-◌, ◌<◌, ◌≤◌, true, false, cond, eqb, ltb, ◌≢◌, List, [], ◌∷◌, map, length, get_or, sym, refl, ap, ◌∙◌, subst, ap₂, ⊎_elim, arith}
+use Rattle.std.proofs.Common.{◌≡◌, ℕ, zero, suc, ◌+◌, ◌-◌, ◌<◌, ◌≤◌, cond, eqb, ltb, ◌≢◌, List, [], ◌∷◌, map, length, get_or, sym, refl, ap, ◌∙◌, ap₂, ⊎_elim, arith}
 use Rattle.std.proofs.lemmas.List.{length-map, get_or-map}
 use Rattle.std.proofs.lemmas.Bool.{cases_lt, cases_eq, cond-true, cond-false, eq-eqb, ne_eqb, lt-ltb, le-ltb}
 use Rattle.types.specs.declared.TypeNode.{TypeNode}
-use Rattle.types.specs.Types.{Ty, variable, base, branch, arrow, apply, Instance}
-use Rattle.types.specs.Lists.{zero_node, Lawful, shape, reading, type_at, meaning}
+use Rattle.types.specs.Types.{Ty, variable, base, branch, arrow, apply}
+use Rattle.types.specs.Lists.{zero_node, Lawful, shape, reading, meaning}
 use Rattle.term.specs.Terms.{Term, abstraction, application, primitive, reference}
 use Rattle.term.specs.Terms.{variable as bound}
 use Rattle.copy.specs.Instances.{Lists, OfList}
-use Rattle.infer.specs.Typing.{size, Typing, HasType}
+use Rattle.infer.specs.Typing.{size, Typing}
 use Rattle.infer.proofs.Typings.{some_node, typing_gives, type_typing}
 use Rattle.normal.specs.Laws.{Simple}
 use Rattle.normal.proofs.Meaning.{apply_apply}

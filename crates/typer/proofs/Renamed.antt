@@ -1,16 +1,16 @@
 -- A principal typing with its variables numbered anew is principal; its list begins with that of the root's type.
-use Rattle.std.proofs.Common.{◌≡◌, ℕ, ◌+◌, ◌-◌, ◌<◌, ◌≤◌, List, [], ◌∷◌, ◌++◌, map, length, get_or, take, drop, replicate, sym, refl, ap, ◌∙◌, subst, ap₂, ⊎_elim, arith}
+use Rattle.std.proofs.Common.{◌≡◌, ℕ, ◌-◌, ◌<◌, ◌≤◌, List, [], ◌∷◌, ◌++◌, map, length, get_or, take, replicate, sym, refl, ap, ◌∙◌, subst, ⊎_elim, arith}
 use Rattle.std.specs.List.{AllByRecursion}
 use Rattle.std.proofs.lemmas.List.{length-map, get_or-map, ext_get_or, take_all, get_or_append_left, get_or-append_right, get_or-replicate, get_or_past}
 use Rattle.std.proofs.ByRecursion.{All-from_get_or}
 use Rattle.std.proofs.lemmas.Bool.{cases_lt}
 use Rattle.types.specs.declared.TypeNode.{TypeNode}
-use Rattle.types.specs.Types.{Ty, variable, apply, Instance}
+use Rattle.types.specs.Types.{Ty, variable, apply}
 use Rattle.types.specs.Lists.{zero_node, Lawful, type_at}
 use Rattle.term.specs.declared.TermNode.{TermNode}
-use Rattle.term.specs.Terms.{Term, prefix}
+use Rattle.term.specs.Terms.{Term}
 use Rattle.copy.specs.Instances.{Lists}
-use Rattle.infer.specs.Typing.{size, Typing}
+use Rattle.infer.specs.Typing.{size}
 use Rattle.infer.specs.Heads.{need}
 use Rattle.infer.proofs.Typings.{some_node, typing_same}
 use Rattle.normal.specs.Normal.{place, parts, rank, normal, normal_of}

@@ -1,6 +1,5 @@
 -- The graph that inference built, and its most general solution: the types of the term's nodes.
-use Rattle.std.proofs.Common.{◌≡◌, ℕ, ◌+◌, ◌-◌, ◌<◌, ◌≤◌, List, [], ◌∷◌, ◌++◌, map, length, get_or, take, replicate, sym, refl, ap, ◌∙◌, subst, ap₂, arith}
-use lib.ListN.{length-replicate}
+use Rattle.std.proofs.Common.{◌≡◌, ℕ, ◌-◌, ◌<◌, ◌≤◌, List, [], ◌++◌, map, length, get_or, take, replicate, sym, ap, ◌∙◌, subst, ap₂, arith}
 use Rattle.std.specs.List.{AllByRecursion}
 use Rattle.std.proofs.lemmas.List.{length-map, length-append, length-take-le, get_or-map, get_or-take, take-map}
 use Rattle.std.proofs.ByRecursion.{All-from_get_or}
@@ -10,9 +9,9 @@ use Rattle.types.specs.Lists.{zero_node}
 use Rattle.term.specs.declared.TermNode.{TermNode}
 use Rattle.term.specs.Terms.{Term, prefix}
 use Rattle.copy.specs.Instances.{Lists}
-use Rattle.graph.specs.Graph.{graph, Solves}
+use Rattle.graph.specs.Graph.{graph}
 use Rattle.graph.proofs.Memory.{graph_length}
-use Rattle.infer.specs.Typing.{size, Typing, HasType}
+use Rattle.infer.specs.Typing.{size}
 use Rattle.infer.specs.Passes.{Inferred}
 use Rattle.infer.proofs.Typings.{some_node, typing_same}
 use Rattle.normal.specs.Normal.{place, parts, normal, record_of}
@@ -20,7 +19,7 @@ use Rattle.normal.specs.Laws.{Proper}
 use Rattle.normal.specs.Built.{none}
 use Rattle.normal.proofs.Parts.{place_at}
 use Rattle.normal.proofs.Meaning.{parts_have}
-use Rattle.walk.specs.Listing.{Canonical, Listed, Unsolvable}
+use Rattle.walk.specs.Listing.{Listed, Unsolvable}
 use Rattle.typer.specs.Answers.{PrincipalTyping, NoTypes}
 use Rattle.typer.specs.Nodes.{of, NodesListed}
 

@@ -1,23 +1,18 @@
 -- What stands in whole memories after the work on their fronts, and that a listed root is the most general type.
-use Rattle.std.proofs.Common.{◌≡◌, ℕ, ◌+◌, ◌-◌, ◌<◌, ◌≤◌, List, [], ◌∷◌, ◌++◌, length, get_or, take, drop, replicate, sym, refl, ap, ◌∙◌, subst, ap₂, append_assoc, append-nil, arith}
-use lib.ListN.{length-replicate}
+use Rattle.std.proofs.Common.{◌≡◌, ℕ, ◌+◌, ◌-◌, ◌<◌, ◌≤◌, List, [], ◌∷◌, ◌++◌, length, take, drop, replicate, refl, ap, ◌∙◌, ap₂, append_assoc, append-nil, arith}
 use borrow.Rule.Slice.PartMut.{put_mid}
-use Rattle.std.specs.List.{AllByRecursion}
 use Rattle.std.proofs.lemmas.List.{length-append, take_at, drop_at, drop_all, replicate-append-replicate}
 use Rattle.types.specs.declared.TypeNode.{TypeNode}
-use Rattle.types.specs.Types.{Ty, variable}
+use Rattle.types.specs.Types.{Ty}
 use Rattle.types.specs.Lists.{zero_node, Lawful}
 use Rattle.term.specs.declared.TermNode.{TermNode}
-use Rattle.term.specs.Terms.{Term, prefix}
 use Rattle.copy.specs.Instances.{Lists}
-use Rattle.infer.specs.Typing.{size}
 use Rattle.infer.specs.Heads.{need}
 use Rattle.infer.proofs.Typings.{some_node}
 use Rattle.normal.specs.Normal.{normal, normal_of}
-use Rattle.normal.specs.Laws.{Simple}
 use Rattle.normal.proofs.Meaning.{normal_lawful}
-use Rattle.typer.specs.Answers.{Typed, Refuses, Cleared, Zeros, NoTypes}
-use Rattle.typer.specs.Nodes.{of, NodesListed, Nowhere}
+use Rattle.typer.specs.Answers.{Typed, Cleared, Zeros}
+use Rattle.typer.specs.Nodes.{of, NodesListed}
 use Rattle.typer.proofs.Mapped.{principal_type, principal_simple}
 
 -- a memory whose front was worked on and whose rest was written anew

@@ -1,4 +1,4 @@
-use Rattle.std.proofs.Common.{◌≡◌, ℕ, ◌+◌, ◌≤◌, length, get_or, drop, refl, ap, arith, drop_of_length-le}
+use Rattle.std.proofs.Common.{◌≡◌, get_or, refl, ap, arith, drop_of_length-le}
 use Rattle.term.specs.Terms.{zero_node}
 use Rattle.copy.specs.Instances.{Lists}
 use Rattle.infer.specs.Heads.{head_of, need as total}
