@@ -1,26 +1,26 @@
 -- What stands at the front of the memories that a line was read and typed in.
-use Rattle.std.proofs.Common.{◌≡◌, ℕ, ◌-◌, ◌<◌, ◌≤◌, List, [], ◌++◌, length, take, drop, replicate, Err, sym, refl, ap, ◌∙◌, subst, ⊎_elim, arith}
+use Rattle.std.proofs.Common.{◌≡◌, ℕ, ◌-◌, ◌<◌, ◌≤◌, List, ◌++◌, length, take, Err, sym, ap, ◌∙◌, subst, ⊎_elim, arith}
 use Rattle.std.proofs.lemmas.List.{take_at}
 use Rattle.refusal.specs.Saying.{saying}
 use Rattle.refusal.specs.declared.Layer.TheVariants as layer
 use Rattle.refusal.specs.declared.Refusal.{Refusal}
 use Rattle.types.specs.declared.TypeNode.{TypeNode}
-use Rattle.types.specs.Lists.{zero_node, Lawful, meaning}
+use Rattle.types.specs.Lists.{Lawful}
 use Rattle.term.specs.declared.TermNode.{TermNode}
-use Rattle.term.specs.Terms.{Term, prefix}
+use Rattle.term.specs.Terms.{prefix}
 use Rattle.catalogue.specs.Table.{builtin}
-use Rattle.formula.specs.Reading.{Formula, Accepted}
+use Rattle.formula.specs.Reading.{Accepted}
 use Rattle.infer.specs.Heads.{need}
 use Rattle.normal.specs.Normal.{normal_of}
 use Rattle.printing.specs.declared.ShowFault.{ShowFault}
-use Rattle.printing.specs.Writing.{Prints, Printed, Overlong, Shown}
+use Rattle.printing.specs.Writing.{Printed, Overlong, Shown}
 use Rattle.typer.specs.Questions.{Unserved}
 use Rattle.typer.specs.Answers.{Typed, NoTypes}
 use Rattle.typer.specs.Answers as typing
 use Rattle.std.proofs.str.Laws.{order}
 use Rattle.paycheck.specs.Lines.{Cut}
 use Rattle.paycheck.specs.declared.lines.Line.{Line}
-use Rattle.paycheck.specs.Replies.{entries, nothing, shown, Types, Refused, unserved, no_type, too_long}
+use Rattle.paycheck.specs.Replies.{entries, nothing, Types, Refused, unserved, no_type, too_long}
 
 front_of : {X : Type 0} (m l r : List X) (n : ℕ) → m ≡ l ++ r → n ≡ length l → take (n - 0) m ≡ l
 front_of m l r n e f = let z : n - 0 ≡ n = omega arith in ap (λ k. take k m) z ∙ ap (take n) e ∙ take_at l r n (sym f)

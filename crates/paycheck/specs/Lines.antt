@@ -1,5 +1,5 @@
 -- Lines: each ends at byte 10, and a last one without it counts unless it is empty.
-use Rattle.std.specs.Prelude.{◌≡◌, ℕ, ◌+◌, ◌-◌, ◌<◌, ◌≤◌, ◌⊎◌, List, length, ◌≢◌, slice_index, slice_range}
+use Rattle.std.specs.Prelude.{◌≡◌, ℕ, ◌+◌, ◌<◌, ◌≤◌, List, length, ◌≢◌, slice_index, slice_range}
 use Rattle.paycheck.specs.declared.lines.Line.{Line}
 
 -- the line that begins at `from` ends at `end`: at the first byte 10, or at the end of the input

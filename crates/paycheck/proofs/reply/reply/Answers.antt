@@ -1,4 +1,4 @@
-use Rattle.std.proofs.Common.{◌≡◌, ◌-◌, take, refl, arith}
+use Rattle.std.proofs.Common.{◌-◌, take, refl}
 use Rattle.std.proofs.lemmas.Result.{err_from_is_err_and}
 use Rattle.printing.specs.declared.ShowFault.TheVariants.{Unlawful, TooLong}
 use Rattle.paycheck.specs.Replies.{too_many_bytes, no_formula}
@@ -16,17 +16,17 @@ returns-in_err-count c =
 pub returns-in_err-records : goal.returns-in_err-records
 returns-in_err-records c =
     let p = err_from_is_err_and c.from_residual-in_err-records.result c.from_residual-in_err-records.ensures.1 in
-    rw (p.1, p.2) (untyped _ _ _ c.in_ok-count.ensures _ _ _ _ _ _ c.if-line-gt-LONGEST_TEXT.false c.in_err-records.ensures, refl)
+    rw (p.1, p.2) (untyped _ _ _ c.in_ok-count.ensures _ _ _ _ _ _ c.if-line-gt-LONGEST_TEXT.false c.in_err-records.ensures.answer, refl)
 
 pub unreachable-requires : goal.unreachable-requires
 unreachable-requires c =
     let m = shown_for (take (c.in_ok-records.records - 0) c.type_term-typed.new.types) c.args.out.now c.show.new.out _ Unlawful c.in-Unlawful.is c.in-Err.ensures in
-    m.unlawful (lawful_front _ _ _ c.in_ok-count.ensures _ _ _ c.in_ok-records.ensures)
+    m.unlawful (lawful_front _ _ _ c.in_ok-count.ensures _ _ _ c.in_ok-records.ensures.answer)
 
 pub returns-in-Ok : goal.returns-in-Ok
-returns-in-Ok c = types_line _ _ _ c.in_ok-count.ensures _ _ _ c.in_ok-records.ensures _ _ _ c.if-line-gt-LONGEST_TEXT.false c.in-Ok.ensures
+returns-in-Ok c = types_line _ _ _ c.in_ok-count.ensures _ _ _ c.in_ok-records.ensures.answer _ _ _ c.if-line-gt-LONGEST_TEXT.false c.in-Ok.ensures
 
 pub returns-in-TooLong : goal.returns-in-TooLong
 returns-in-TooLong c =
     let o = shown_for (take (c.in_ok-records.records - 0) c.type_term-typed.new.types) c.args.out.now c.show.new.out _ TooLong c.in-TooLong.is c.in-Err.ensures in
-    (too_long_line _ _ _ c.in_ok-count.ensures _ _ _ c.in_ok-records.ensures _ _ _ _ _ c.if-line-gt-LONGEST_TEXT.false o, o.leaves)
+    (too_long_line _ _ _ c.in_ok-count.ensures _ _ _ c.in_ok-records.ensures.answer _ _ _ _ _ c.if-line-gt-LONGEST_TEXT.false o, o.leaves)
