@@ -7,4 +7,4 @@ lines-init c =
     subst (Built c.args.input.now 0) (sym c.new-dealings.ensures.items) (built_none c.args.input.now)
 
 pub lines-preserved : goal.lines-preserved
-lines-preserved c = built_more c.args.input.now c.lines.at (vec_items c.lines.dealings) (vec_items c.push.new.self) (vec_items c.push-in-Some.new.self) c.in-Some.line c.lines.invariant c.in-Some.ensures c.in-ok-push.ensures.items c.in-ok-push-2.ensures.items
+lines-preserved c = built_more c.args.input.now c.lines.at (vec_items c.lines.dealings) (vec_items c.push.new.self) (vec_items c.push-in-Some.new.self) c.in-Some.line c.lines.invariant c.in-Some.ensures c.in_ok-push.ensures.items c.in_ok-push-2.ensures.items
