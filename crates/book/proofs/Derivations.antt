@@ -1,9 +1,8 @@
 -- Derivations are answered as by the ledger.
-use Rattle.std.proofs.Common.{◌≡◌, ℕ, ◌<◌, ◌≤◌, List, [], length, get_or, refl, ap, ◌∙◌, subst, arith}
+use Rattle.std.proofs.Common.{◌≡◌, ℕ, ◌<◌, ◌≤◌, List, [], length, refl, ap, ◌∙◌, subst, arith}
 use Rattle.std.proofs.lemmas.List.{length-map, get_or-map}
 use Rattle.refusal.specs.declared.Refusal.{Refusal}
 use Rattle.types.specs.declared.TypeNode.{TypeNode}
-use Rattle.types.specs.Types.{Ty}
 use Rattle.types.specs.Lists.{meaning}
 use Rattle.term.specs.declared.TermNode.{TermNode}
 use Rattle.term.specs.Terms.{Term, prefix, reference}

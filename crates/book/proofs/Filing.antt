@@ -8,7 +8,7 @@ use Rattle.ledger.specs.Ledger.{Row, Ledger}
 use Rattle.ledger.specs.Calls as calls
 use Rattle.ledger.specs.Looking.{refused_by_book}
 use Rattle.ledger.specs.Steps.{Step, not_filed, is_filed, not_dismissed, is_dismissed, candidate_open, nothing_filed, is_withdrawn}
-use Rattle.book.specs.Standing.{shown_row, shown_if, shown, Stands, Next, Answers}
+use Rattle.book.specs.Standing.{shown_row, shown_if, Stands, Next, Answers}
 use Rattle.book.proofs.Standing.{count_is, is_free, is_open}
 
 -- a list that has an element has a last one

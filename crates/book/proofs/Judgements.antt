@@ -1,5 +1,5 @@
 -- What is found out about a text, over the table's rows and over the ledger's.
-use Rattle.std.proofs.Common.{◌≡◌, ℕ, ◌+◌, ◌-◌, List, ◌++◌, length, take, sym, refl, ap, ◌∙◌, subst, arith}
+use Rattle.std.proofs.Common.{◌≡◌, ℕ, ◌+◌, List, ◌++◌, length, take, sym, refl, ap, ◌∙◌, subst, arith}
 use Rattle.std.proofs.lemmas.List.{take_at, length-map}
 use Rattle.refusal.specs.declared.Refusal.{Refusal}
 use Rattle.types.specs.declared.TypeNode.{TypeNode}
@@ -20,7 +20,6 @@ use Rattle.theory.proofs.Kept.{principal_of_expansions, typeless_expansions}
 use Rattle.typer.specs.Questions.{Serves, Unserved}
 use Rattle.typer.specs.Answers.{NoTypes}
 use Rattle.typer.specs.Answers as typer
-use Rattle.table.specs.Rows.{row}
 use Rattle.table.specs.View.{View, term_nodes}
 use Rattle.ledger.specs.Ledger.{Row, Ledger, entered, kept, expansions}
 use Rattle.ledger.specs.Ledger as ledgers

@@ -11,7 +11,7 @@ use Rattle.copy.specs.Instances.{Lists}
 use Rattle.table.specs.Rows.{no_row}
 use Rattle.table.specs.View.{View, kept_row}
 use Rattle.derivation_check.specs.Checking.{Refuses}
-use Rattle.typer.specs.Derivations.{Derived, Underived}
+use Rattle.typer.specs.Derivations.{Underived}
 use Rattle.lines.specs.Lines.{filed_line, refused_line}
 use Rattle.ledger.specs.Calls.{Submission}
 use Rattle.ledger.specs.Calls as calls

@@ -1,14 +1,13 @@
 -- A book with an open candidate refuses a submit and a withdrawal, and is left as it was.
-use Rattle.std.proofs.Common.{◌≡◌, ℕ, Bool, true, false, List, Some, None, Option, sym, refl, ap, ◌∙◌, subst, arith}
+use Rattle.std.proofs.Common.{◌≡◌, ℕ, true, List, Some, None, Option, sym, refl, ap, ◌∙◌, subst, arith}
 use Rattle.refusal.specs.Saying.{saying}
 use Rattle.refusal.specs.declared.Layer.TheVariants as layer
 use Rattle.refusal.specs.declared.Refusal.{Refusal}
-use Rattle.catalogue.specs.Entries.{Entry, AllLawful}
+use Rattle.catalogue.specs.Entries.{Entry}
 use Rattle.table.specs.View.{view, is_held}
-use Rattle.ledger.specs.Ledger.{Row, Ledger}
+use Rattle.ledger.specs.Ledger.{Row}
 use Rattle.ledger.specs.Fed.{AllKept}
 use Rattle.ledger.specs.Calls.{Call, Reply, Submission, submit, withdraw, refused, opened, filed, dismissed, withdrawn, shown, lined, derived, passed}
-use Rattle.ledger.specs.Looking.{refused_by_book}
 use Rattle.ledger.specs.Submitting.{busy}
 use Rattle.ledger.specs.Steps.{Step, unsubmitted, candidate_open}
 use Rattle.ledger.proofs.Deterministic.{step_is_one}
@@ -16,7 +15,6 @@ use Rattle.book.specs.declared.book.Book.{Book}
 use Rattle.book.specs.Standing.{Stands, shown_if}
 use Rattle.book.specs.Standing as standing
 use Rattle.book.specs.History.{Link, EveryRun, start, next}
-use Rattle.book.specs.Replies.{has_candidate}
 use Rattle.book_desk.specs.Represented.{Represented, Open}
 
 -- some row is held

@@ -5,7 +5,6 @@ use Rattle.types.specs.Lists.{zero_node as no_type_node}
 use Rattle.term.specs.declared.TermNode.{TermNode}
 use Rattle.term.specs.Terms.{zero_node as no_term_node}
 use Rattle.book_desk.specs.declared.desk.Desk.{Desk}
-use Rattle.book_desk.specs.declared.desk.Room.{Room}
 use Rattle.book_desk.specs.declared.desk.Left.{Left}
 use Rattle.book_desk.specs.declared.desk.Left.TheVariants.{Kept, Zeros, Mixed}
 
