@@ -55,8 +55,8 @@ module _ (line : List ℕ) (terms : List TermNode) (n : ℕ) (a : Accepted built
           written = q.leaves;
         }
 
-    pub too_long_line : (before after : List ℕ) (room types-room numbers-room : ℕ) → length line ≤ 4096 → Overlong (take (m - 0) types) before after → Refused line room types-room numbers-room (length before) (saying 71 layer.Book 0)
-    too_long_line before after room types-room numbers-room h p =
+    pub too_long_line : (before after : List ℕ) (room types_room numbers_room : ℕ) → length line ≤ 4096 → Overlong (take (m - 0) types) before after → Refused line room types_room numbers_room (length before) (saying 71 layer.Book 0)
+    too_long_line before after room types_room numbers_room h p =
         let q = subst (λ l. Overlong l before after) list_front p in
         too_long h a.formula (t.principal a.term (sym term_front)) q.long
 

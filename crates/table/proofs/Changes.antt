@@ -47,10 +47,10 @@ fewer_rows t m h =
 -- a candidate, its nodes written behind those of all rows
 module _ (t : Table) (term : List TermNode) (list : List TypeNode) (s u : ℕ) (terms : List TermNode) (types : List TypeNode)
     (free : is_held (view t).candidate ≡ false) (few : length (view t).rows < 128)
-    (room-s : term_nodes (view t) + length term ≤ 4096) (room-u : list_nodes (view t) + length list ≤ 4096)
+    (room_s : term_nodes (view t) + length term ≤ 4096) (room_u : list_nodes (view t) + length list ≤ 4096)
     (proper : Proper (length (view t).rows) (row term list))
-    (at-s : s ≡ term_nodes (view t)) (at-u : u ≡ list_nodes (view t))
-    (written-s : terms ≡ paste t.terms s term (length term)) (written-u : types ≡ paste t.types u list (length list)) where
+    (at_s : s ≡ term_nodes (view t)) (at_u : u ≡ list_nodes (view t))
+    (written_s : terms ≡ paste t.terms s term (length term)) (written_u : types ≡ paste t.types u list (length list)) where
   abbrev new_entry : Entry
   new_entry = record { term_start = s; term_length = length term; list_start = u; list_length = length list }
 
@@ -73,10 +73,10 @@ module _ (t : Table) (term : List TermNode) (list : List TypeNode) (s u : ℕ) (
   lists_in_order = subst (InOrder start_of_list list_long t.entries) none_open t.lists_order
 
   s_end : s ≡ end_of start_of_term term_long t.entries t.count
-  s_end = at-s ∙ term_nodes_end t ∙ ap (end_of start_of_term term_long t.entries) none_open
+  s_end = at_s ∙ term_nodes_end t ∙ ap (end_of start_of_term term_long t.entries) none_open
 
   u_end : u ≡ end_of start_of_list list_long t.entries t.count
-  u_end = at-u ∙ list_nodes_end t ∙ ap (end_of start_of_list list_long t.entries) none_open
+  u_end = at_u ∙ list_nodes_end t ∙ ap (end_of start_of_list list_long t.entries) none_open
 
   -- the rows before it stay
   row_stays : (k : ℕ) → k < t.count → row_at terms types (get_or new_entries k no_entry) ≡ row_at t.terms t.types (get_or t.entries k no_entry)
@@ -85,17 +85,17 @@ module _ (t : Table) (term : List TermNode) (list : List TypeNode) (s u : ℕ) (
       let e : Entry = get_or t.entries k no_entry in
       ap (row_at terms types) (get_or-set_other t.entries t.count k new_entry no_entry ne)
       ∙ ap₂ row
-      (ap (part e.term_start e.term_length) written-s
-      ∙ part_before e.term_start e.term_length s (length term) t.terms term (omega (arith, s_end, entry_within start_of_term term_long t.entries t.count terms_in_order k h)) (omega (arith, at-s, room-s, t.terms_long)))
-      (ap (part e.list_start e.list_length) written-u
-      ∙ part_before e.list_start e.list_length u (length list) t.types list (omega (arith, u_end, entry_within start_of_list list_long t.entries t.count lists_in_order k h)) (omega (arith, at-u, room-u, t.types_long)))
+      (ap (part e.term_start e.term_length) written_s
+      ∙ part_before e.term_start e.term_length s (length term) t.terms term (omega (arith, s_end, entry_within start_of_term term_long t.entries t.count terms_in_order k h)) (omega (arith, at_s, room_s, t.terms_long)))
+      (ap (part e.list_start e.list_length) written_u
+      ∙ part_before e.list_start e.list_length u (length list) t.types list (omega (arith, u_end, entry_within start_of_list list_long t.entries t.count lists_in_order k h)) (omega (arith, at_u, room_u, t.types_long)))
 
   row_new : row_at terms types (get_or new_entries t.count no_entry) ≡ row term list
   row_new =
       ap (row_at terms types) (get_or-set_same t.entries t.count new_entry no_entry within)
       ∙ ap₂ row
-      (ap (part s (length term)) written-s ∙ part_written s (length term) t.terms term (omega (arith, at-s, room-s, t.terms_long)) refl)
-      (ap (part u (length list)) written-u ∙ part_written u (length list) t.types list (omega (arith, at-u, room-u, t.types_long)) refl)
+      (ap (part s (length term)) written_s ∙ part_written s (length term) t.terms term (omega (arith, at_s, room_s, t.terms_long)) refl)
+      (ap (part u (length list)) written_u ∙ part_written u (length list) t.types list (omega (arith, at_u, room_u, t.types_long)) refl)
 
   rows_pass : RowsPass new_entries terms types (suc t.count)
   rows_pass k h =
@@ -112,13 +112,13 @@ module _ (t : Table) (term : List TermNode) (list : List TypeNode) (s u : ℕ) (
   put_invariant =
       record {
         entries_long = length-set t.entries t.count new_entry ∙ t.entries_long;
-        terms_long = ap length written-s ∙ length-paste t.terms s term (length term) (omega (arith, at-s, room-s, t.terms_long)) (omega arith) ∙ t.terms_long;
-        types_long = ap length written-u ∙ length-paste t.types u list (length list) (omega (arith, at-u, room-u, t.types_long)) (omega arith) ∙ t.types_long;
+        terms_long = ap length written_s ∙ length-paste t.terms s term (length term) (omega (arith, at_s, room_s, t.terms_long)) (omega arith) ∙ t.terms_long;
+        types_long = ap length written_u ∙ length-paste t.types u list (length list) (omega (arith, at_u, room_u, t.types_long)) (omega arith) ∙ t.types_long;
         few = omega (arith, place);
         terms_order = order_set start_of_term term_long t.entries t.count new_entry within terms_in_order s_end;
         lists_order = order_set start_of_list list_long t.entries t.count new_entry within lists_in_order u_end;
-        terms_within = omega (arith, end_added start_of_term term_long t.entries t.count new_entry within, at-s, room-s);
-        lists_within = omega (arith, end_added start_of_list list_long t.entries t.count new_entry within, at-u, room-u);
+        terms_within = omega (arith, end_added start_of_term term_long t.entries t.count new_entry within, at_s, room_s);
+        lists_within = omega (arith, end_added start_of_list list_long t.entries t.count new_entry within, at_u, room_u);
         rows_pass = rows_pass;
       }
 

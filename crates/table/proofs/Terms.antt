@@ -52,7 +52,7 @@ module _ (k d : ℕ) (ds : List ℕ) (xs : List TermNode) where
         stand = ((s.0, s.2.0), (s.1, s.2.1), s.2.2);
       }
 
-  module _ (leaf one two : Bool) (at_leaf : leaf ≡ true → Forest k ds xs) (at_one : one ≡ true → Forest k (suc d ∷ ds) xs) (at-two : two ≡ true → Forest k (d ∷ d ∷ ds) xs) where
+  module _ (leaf one two : Bool) (at_leaf : leaf ≡ true → Forest k ds xs) (at_one : one ≡ true → Forest k (suc d ∷ ds) xs) (at_two : two ≡ true → Forest k (d ∷ d ∷ ds) xs) where
     node_first : (kind n : ℕ) → node_reads kind n k d leaf one two ≡ true → Forest k (d ∷ ds) (node kind n ∷ xs)
     node_first zero n e = let p = both_parts (ltb n d) leaf e in leaf_first (variable n) (ltb-true n d p.0) tt (at_leaf p.1)
     node_first (suc zero) n e =
@@ -61,7 +61,7 @@ module _ (k d : ℕ) (ds : List ℕ) (xs : List TermNode) where
         subst (λ (m : ℕ). Forest k (d ∷ ds) (node 1 m ∷ xs)) (sym (eqb-true n 0 p.0)) (abstraction_first f.trees f.code f.stand)
     node_first (suc (suc zero)) n e =
         let p = both_parts (eqb n 0) two e in
-        let f = at-two p.1 in
+        let f = at_two p.1 in
         subst (λ (m : ℕ). Forest k (d ∷ ds) (node 2 m ∷ xs)) (sym (eqb-true n 0 p.0)) (application_first f.trees f.code f.stand)
     node_first (suc (suc (suc zero))) n e = leaf_first (primitive n) tt tt (at_leaf e)
     node_first (suc (suc (suc (suc zero)))) n e = let p = both_parts (ltb n k) leaf e in leaf_first (reference n) tt (ltb-true n k p.0) (at_leaf p.1)

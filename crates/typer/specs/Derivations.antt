@@ -56,7 +56,7 @@ pub record Derived (E K : Lists) (ts : List TermNode) (types : List TypeNode) (p
   -- the list begins with that of the term's most general type
   pub begins : (t : Term) → prefix t ≡ ts → (τ : Ty) → PrincipalType E K t τ → take (length (normal_of τ)) (normal nodes) ≡ normal_of τ
 
--- the typing whose list that is is principal as well
+-- `Derived`, and the types that the list is made of are a principal typing themselves
 pub record DerivedNodes (E K : Lists) (ts : List TermNode) (types : List TypeNode) (places numbers : List ℕ) (n : ℕ) : Type 0 where
   pub derived : Derived E K ts types places numbers n
   pub typing : (t : Term) → prefix t ≡ ts → PrincipalTyping E K t (of derived.nodes)

@@ -138,11 +138,11 @@ module _ (ns : List Node) (w : Work) (i : ℕ) (key : TypeNode) (h : i < length 
         exact = λ ps t s r k reads. (let f = found ps s in closed_old ns w i key h opened complete ps t s r k reads p f.0 f.1);
       }
 
-  pub closed-appended :
+  pub closed_appended :
       ((ps : List Ty) → State ns w ps → (q : ℕ) → q < w.count → key_of ps (part ps q) ≡ key → ⊥) → i < length ns → alive (get_or ns i Var) ≡ 1 → 0 < length w.heads → w.count < length w.origins → w.count < length w.nexts
       → (ms os hs xs : List ℕ) (n p : ℕ) → p ≡ w.count → n ≡ w.count + 1 → ms ≡ set w.marks i (w.count + 2) → os ≡ set w.origins w.count i → hs ≡ set w.heads (bucket (length w.heads) key) (w.count + 1) → xs ≡ set w.nexts w.count (get_or w.heads (bucket (length w.heads) key) 0)
       → Closed ns w (work ms os hs xs n) i key p
-  closed-appended none inside stands some ho hn ms os hs xs n p ep en em eo eh ex =
+  closed_appended none inside stands some ho hn ms os hs xs n p ep en em eo eh ex =
       record {
         marks = em ∙ ap (λ (x : ℕ). set w.marks i (x + 2)) (sym ep);
         count = omega arith;
