@@ -1,5 +1,5 @@
 -- A catalogue without entries is lawful.
-use Rattle.std.specs.Prelude.{ℕ, ◌≤◌, List, [], length}
+use Rattle.std.specs.Prelude.{◌≤◌, List, [], length}
 use Rattle.std.proofs.Common.{arith, lit≤}
 use Rattle.catalogue.specs.Entries.{Entry, AllLawful}
 
