@@ -7,7 +7,7 @@ use Rattle.book.specs.declared.dealing.Answer.TheVariants as answer
 use Rattle.book.specs.declared.outcome.Outcome.{Outcome}
 use Rattle.book.specs.declared.outcome.Outcome.TheVariants.{Filed, Refused}
 use Rattle.book.specs.declared.fault.BookFault.TheVariants.{NoCandidate}
-use Rattle.desk.specs.declared.lines.Line.{Line}
+use Rattle.desk.specs.declared.cutting.Line.{Line}
 use Rattle.desk.specs.Lines.{Lines}
 
 -- each line is submitted and filed; where it is refused there is nothing to file, and that is refused too

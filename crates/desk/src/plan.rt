@@ -2,7 +2,7 @@
 ghost use Rattle.std.specs.Prelude.{◌≡◌, IfOk};
 ghost use Rattle.desk.specs.Plans.{Planned, filed_to, came_to};
 
-use crate::lines::next_line;
+use crate::cutting::next_line;
 use book::dealing::{Answer, Dealing};
 use book::fault::BookFault;
 use book::outcome::Outcome;
