@@ -1,6 +1,6 @@
 #!/bin/sh
-# Builds this package and runs the comparison and the timing. The library and the program are taken in where they are built
-# (`rt lib` in crates/paybook, a static library that is not there yet, and `rt run` in crates/paydesk). Arguments go to `diff`: --cases N, --seed S.
+# Builds this package and runs the comparison and the timing. The program is taken in where `rt run` in crates/paydesk builds
+# it, and so is a static library paybook, once there is one. Arguments go to `diff`: --cases N, --seed S.
 set -eu
 cd "$(dirname "$0")"
 features=

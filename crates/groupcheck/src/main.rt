@@ -1,5 +1,5 @@
-// Lists the entries of a group's catalogue file with their types, one to a line, and then types formulas from standard
-// input over it, as paycheck does over the built-in catalogue; or says why the file is refused. The path of the file is
+// Lists the entries of a group's catalogue file with their types, one to a line, and then files formulas from standard
+// input over it, as paydesk does over the built-in catalogue; or says why the file is refused. The path of the file is
 // the argument.
 #![tactic(auto)]
 
