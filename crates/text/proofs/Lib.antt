@@ -1,4 +1,5 @@
-mod Overwrites
+mod Marks
 pub mod ByteFacts
+mod Spaces
 pub mod Scanning
 pub mod Ahead

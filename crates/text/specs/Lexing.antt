@@ -1,6 +1,8 @@
 -- What the lexer answers, in the words of the tokens.
-use Rattle.std.specs.Prelude.{◌≡◌, ℕ, ◌<◌, ◌≤◌, List, [], ◌∷◌, length, drop, Some, None, Ok, Err, Option, Result, ◌≢◌, slice_index}
+use Rattle.std.specs.Prelude.{◌≡◌, ℕ, ◌+◌, ◌<◌, ◌≤◌, Bool, List, [], ◌∷◌, length, drop, Some, None, Ok, Err, Option, Result, ◌≢◌, slice_index}
+use Rattle.std.specs.List.{prefix_len}
 use Rattle.text.specs.Bytes.{class_of}
+use Rattle.text.specs.declared.bytes.Class.{Class}
 use Rattle.text.specs.declared.bytes.Class.TheVariants.{Space}
 use Rattle.text.specs.Tokens.{Tokens, Token as Lexed, Sign, lambda, dot, opening, closing, name, reference, token, Scans, FirstStray, Stray as Strays, single}
 use Rattle.text.specs.declared.fault.TextFault.{TextFault}
@@ -42,6 +44,10 @@ Next text o (Ok None) = Scans o (drop o text) [] (length text) []
 Next text o (Ok (Some x)) = Found text o x
 Next text o (Err (Stray p)) = FirstStray text o [] p
 Next text o (Err (Misplaced p)) = ⊥
+
+-- from o to p stand all the bytes from o on whose classes pass the test that is put to them
+abbrev pub Run : (Class → Bool → Type 0) → List ℕ → ℕ → ℕ → Type 0
+Run Tells text o p = (test : Class → Bool) → ((c : Class) (b : Bool) → Tells c b → b ≡ test c) → p ≡ o + prefix_len (λ b. test (class_of b)) (drop o text)
 
 -- only spaces stand from o to p, and none at p
 pub record Passed (text : List ℕ) (o p : ℕ) : Type 0 where

@@ -3,91 +3,13 @@ ghost use Rattle.std.specs.Prelude.{◌≡◌, ℕ, ◌+◌, ◌<◌, ◌≤◌,
 ghost use Rattle.text.specs.Bytes.{class_of, in_name};
 ghost use Rattle.text.specs.Words.{lead};
 ghost use Rattle.text.specs.Tokens.{Scans, Tokens};
-ghost use Rattle.text.specs.Lexing.{Next, Passed, Scanned, Starts};
+ghost use Rattle.text.specs.Lexing.{Next, Passed, Run, Scanned, Starts};
 
 use crate::bytes::Class;
 use crate::classes::Classes;
 use crate::fault::TextFault;
 use crate::token::{Lexeme, Token, single};
 use crate::words::{is_name, number};
-
-// The first offset from `at` on at which no space stands.
-fn pass_spaces(classes: &Classes, text: &[u8], at: usize) -> usize
-    requires { at ≤ length text.now }
-    ensures { Passed text.now at result }
-{
-    let mut end = at;
-    while end < text.len() && classes.of(text[end]) == Class::Space {
-        end += 1;
-    }
-    end
-}
-
-// Where the run of name bytes that begins at `at` ends.
-fn run_end(classes: &Classes, text: &[u8], at: usize) -> usize
-    requires { at ≤ length text.now }
-    ensures within { result ≤ length text.now }
-    ensures whole { result ≡ at + lead (drop at text.now) }
-{
-    let mut end = at;
-    while end < text.len() && classes.of(text[end]).is_in_name() {
-        end += 1;
-    }
-    end
-}
-
-// The name that begins at `at`.
-fn name_at<'a>(classes: &Classes, text: &'a [u8], at: usize) -> Result<Lexeme<'a>, TextFault>
-    requires { (at < length text.now) × (in_name (class_of (slice_index text.now at)) ≡ true) }
-    ensures { Starts text.now at result }
-{
-    let end = run_end(classes, text, at);
-    let word = &text[at..end];
-    if is_name(classes, word) {
-        Ok(Lexeme {
-            token: Token::Name(word),
-            at,
-            end,
-        })
-    } else {
-        Err(TextFault::Stray(at))
-    }
-}
-
-// The reference whose `#` stands at `at`.
-fn reference_at<'a>(classes: &Classes, text: &'a [u8], at: usize) -> Result<Lexeme<'a>, TextFault>
-    requires { (at < length text.now) × (slice_index text.now at ≡ 35) }
-    ensures { Starts text.now at result }
-{
-    let end = run_end(classes, text, at + 1);
-    match number(classes, &text[at + 1..end]) {
-        Some(n) => Ok(Lexeme {
-            token: Token::Reference(n),
-            at,
-            end,
-        }),
-        None => Err(TextFault::Stray(at)),
-    }
-}
-
-// The token that begins at `at`, where no space stands.
-fn token_at<'a>(classes: &Classes, text: &'a [u8], at: usize) -> Result<Lexeme<'a>, TextFault>
-    requires { (at < length text.now) × ((class_of (slice_index text.now at) ≢ Class.Space)) }
-    ensures { Starts text.now at result }
-{
-    if let Some(token) = single(text[at] as char) {
-        return Ok(Lexeme {
-            token,
-            at,
-            end: at + 1,
-        });
-    }
-    match classes.of(text[at]) {
-        Class::Letter | Class::Digit | Class::Underscore => name_at(classes, text, at),
-        Class::Mark => reference_at(classes, text, at),
-        Class::Other | Class::Space => Err(TextFault::Stray(at)),
-    }
-}
 
 // A text, with the classes of bytes by which it is cut.
 #[derive(Drop)]
@@ -106,20 +28,99 @@ impl<'a> Lexer<'a> {
         }
     }
 
+    // Where the bytes end that begin at `from` and are of classes that go on.
+    fn run<F: Fn(Class) -> bool>(&self, from: usize, goes_on: F) -> usize
+        requires inside { from ≤ length self.now.text.now }
+        requires callable { (f : F) (c : _) → F.pre f c }
+        ensures within { result ≤ length self.now.text.now }
+        ensures counts { Run (F.post goes_on) self.now.text.now from result }
+    {
+        from + self.text[from..]
+            .iter()
+            .take_while(|byte| goes_on(self.classes.of(**byte)))
+            .count()
+    }
+
+    // The first offset from `from` on at which no space stands.
+    fn pass_spaces(&self, from: usize) -> usize
+        requires { from ≤ length self.now.text.now }
+        ensures { Passed self.now.text.now from result }
+    {
+        self.run(from, |class| class == Class::Space)
+    }
+
+    // Where the run of name bytes that begins at `from` ends.
+    fn run_end(&self, from: usize) -> usize
+        requires { from ≤ length self.now.text.now }
+        ensures within { result ≤ length self.now.text.now }
+        ensures whole { result ≡ from + lead (drop from self.now.text.now) }
+    {
+        self.run(from, |class| class.is_in_name())
+    }
+
+    // The name that begins at `at`.
+    fn name_at(&self, at: usize) -> Result<Lexeme<'a>, TextFault>
+        requires { (at < length self.now.text.now) × (in_name (class_of (slice_index self.now.text.now at)) ≡ true) }
+        ensures { Starts self.now.text.now at result }
+    {
+        let end = self.run_end(at);
+        let word = &self.text[at..end];
+        if !is_name(&self.classes, word) {
+            return Err(TextFault::Stray(at));
+        }
+        Ok(Lexeme {
+            token: Token::Name(word),
+            at,
+            end,
+        })
+    }
+
+    // The reference whose `#` stands at `at`.
+    fn reference_at(&self, at: usize) -> Result<Lexeme<'a>, TextFault>
+        requires { (at < length self.now.text.now) × (slice_index self.now.text.now at ≡ 35) }
+        ensures { Starts self.now.text.now at result }
+    {
+        let end = self.run_end(at + 1);
+        let n = number(&self.text[at + 1..end]).ok_or(TextFault::Stray(at))?;
+        Ok(Lexeme {
+            token: Token::Reference(n),
+            at,
+            end,
+        })
+    }
+
+    // The token that begins at `at`, where no space stands.
+    fn token_at(&self, at: usize) -> Result<Lexeme<'a>, TextFault>
+        requires { (at < length self.now.text.now) × ((class_of (slice_index self.now.text.now at) ≢ Class.Space)) }
+        ensures { Starts self.now.text.now at result }
+    {
+        let byte = self.text[at];
+        if let Some(token) = single(byte as char) {
+            return Ok(Lexeme {
+                token,
+                at,
+                end: at + 1,
+            });
+        }
+        match self.classes.of(byte) {
+            Class::Letter | Class::Digit | Class::Underscore => self.name_at(at),
+            Class::Mark => self.reference_at(at),
+            Class::Other | Class::Space => Err(TextFault::Stray(at)),
+        }
+    }
+
     // The next token from the offset `from` on, if there is one; what is no token is refused.
     pub fn next(&self, from: usize) -> Result<Option<Lexeme<'a>>, TextFault>
         ensures { from ≤ length self.now.text.now → Next self.now.text.now from result }
     {
-        let text = self.text;
-        if from > text.len() {
+        if from > self.text.len() {
             return Ok(None);
         }
-        let at = pass_spaces(&self.classes, text, from);
-        if at == text.len() {
+        let at = self.pass_spaces(from);
+        if at == self.text.len() {
             return Ok(None);
         }
-        let found = token_at(&self.classes, text, at)?;
-        Ok(Some(found))
+        self.token_at(at).map(Some)
     }
 
     // Whether the whole text is tokens and spaces; if not, the first byte or run that is none is refused.

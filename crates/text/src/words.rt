@@ -14,35 +14,26 @@ pub const MOST_DIGITS: usize = 3;
 pub fn is_name(classes: &Classes, word: &[u8]) -> bool
     ensures { Decides result (IsName word.now) }
 {
-    if word.len() == 0 || word.len() > LONGEST_NAME {
-        return false;
-    }
-    if classes.of(word[0]) != Class::Letter {
-        return false;
-    }
-    for byte in word {
-        if !classes.of(*byte).is_in_name() {
-            return false;
-        }
-    }
-    true
+    word.len() <= LONGEST_NAME
+        && word
+            .first()
+            .is_some_and(|first| classes.of(*first) == Class::Letter)
+        && word.iter().all(|byte| classes.of(*byte).is_in_name())
 }
 
 // The value of a digit.
-fn digit(classes: &Classes, byte: u8) -> Option<u16>
+fn digit(byte: u8) -> Option<u16>
     ensures { MatchOption result (class_of byte ≢ Class.Digit) (λ d. (class_of byte ≡ Class.Digit) × (d ≡ byte - 48)) }
 {
-    match classes.of(byte) {
-        Class::Digit => Some((byte - 48) as u16),
-        _ => None,
-    }
+    let value = (byte as char).to_digit(10)?;
+    Some(value as u16)
 }
 
 // The number that a word of one to three digits writes, with no leading zero but for zero itself.
-pub fn number(classes: &Classes, word: &[u8]) -> Option<u16>
+pub fn number(word: &[u8]) -> Option<u16>
     ensures { MatchOption result ((n : ℕ) → IsNumber word.now n → ⊥) (λ n. IsNumber word.now n) }
 {
-    if word.len() == 0 || word.len() > MOST_DIGITS {
+    if word.is_empty() || word.len() > MOST_DIGITS {
         return None;
     }
     if word[0] == b'0' && word.len() > 1 {
@@ -50,7 +41,7 @@ pub fn number(classes: &Classes, word: &[u8]) -> Option<u16>
     }
     let mut n = 0;
     for byte in word {
-        n = 10 * n + digit(classes, *byte)?;
+        n = 10 * n + digit(*byte)?;
     }
     Some(n)
 }

@@ -1,4 +1,4 @@
-use Rattle.std.proofs.Common.{◌≡◌, ℕ, ◌+◌, ◌-◌, ◌*◌, ◌<◌, List, [], ◌∷◌, ◌++◌, length, get_or, take, sym, refl, ap, ◌∙◌, ⊎_elim, arith, below_more}
+use Rattle.std.proofs.Common.{◌≡◌, ℕ, ◌+◌, ◌-◌, ◌*◌, ◌<◌, List, [], ◌∷◌, ◌++◌, length, get_or, take, sym, refl, ap, ◌∙◌, ⊎_elim, arith, below_more, false-eqb}
 use Rattle.std.proofs.lemmas.List.{take_more, take_all}
 use Rattle.text.specs.Words.{numeral}
 use Rattle.text.proofs.ByteFacts.{digit_range}
@@ -31,9 +31,9 @@ returns c =
     let inv = c.loop-byte.invariant in
     let all : c.loop-byte.byte-index ≡ length w = omega arith in
     record {
-      some = omega arith;
+      some = omega (arith, false-eqb _ 0 c.if-is_empty.ensures);
       short = omega arith;
       each = λ i h. inv.0 i (omega arith);
-      plain = λ z. ⊎_elim (λ p. omega (arith, p.1)) (λ n. absurd (n z)) c.else-word-eq48.either;
+      plain = λ z. ⊎_elim (λ p. omega (arith, false-eqb _ 0 c.if-is_empty.ensures, p.1)) (λ n. absurd (n z)) c.else-word-eq48.either;
       value = inv.1 ∙ ap (numeral 0) (take_all c.loop-byte.byte-index w (omega arith));
     }

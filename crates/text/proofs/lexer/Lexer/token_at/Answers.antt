@@ -1,14 +1,14 @@
 use Rattle.std.proofs.Common.{sym, refl, ◌∙◌, ⊎_elim, arith}
 use Rattle.text.proofs.ByteFacts.{mark_hash}
 use Rattle.text.proofs.Scanning.{scans_mark, stray_other}
-use Rattle.text.proofs.lexer.token_at.Goals as goal
+use Rattle.text.proofs.lexer.Lexer.token_at.Goals as goal
 
 pub returns-in-Some : goal.returns-in-Some
 returns-in-Some c =
     record {
       less = omega arith;
       within = omega arith;
-      scans = scans_mark c.args.text.now c.args.at _ c.requires.0 (sym c.in-Some.ensures);
+      scans = scans_mark c.args.self.now.text.now c.args.at _ c.requires.0 (sym c.in-Some.ensures);
     }
 
 pub reference_at-requires : goal.reference_at-requires
@@ -16,7 +16,7 @@ reference_at-requires c = (c.requires.0, mark_hash _ (sym c.in-Mark.ensures) (sy
 
 pub returns-in-Other : goal.returns-in-Other
 returns-in-Other c =
-    let text = c.args.text.now in
+    let text = c.args.self.now.text.now in
     let at = c.args.at in (
       refl,
       ⊎_elim
