@@ -14,6 +14,7 @@ struct Row {
     list: &'static [TypeNode],
 }
 
+// A constant calls no function, so the nodes are written out.
 const HOURS: TypeNode = TypeNode {
     kind: BASE,
     left: 0,
@@ -185,11 +186,7 @@ impl Catalogue for Builtin {
     }
 
     fn node(&self, k: u16, i: u16) -> TypeNode {
-        self.list(k).get(i as usize).copied().unwrap_or(TypeNode {
-            kind: 0,
-            left: 0,
-            right: 0,
-        })
+        self.list(k).get(i as usize).copied().unwrap_or_default()
     }
 }
 

@@ -40,11 +40,7 @@ pub fn node_at(rest: &[u8], i: u16) -> TypeNode
             left: u16::from_le_bytes([*a, *b]),
             right: u16::from_le_bytes([*c, *d]),
         },
-        _ => TypeNode {
-            kind: 0,
-            left: 0,
-            right: 0,
-        },
+        _ => TypeNode::default(),
     }
 }
 
