@@ -1,4 +1,5 @@
-use Rattle.std.proofs.Common.{◌*◌, refl, arith}
+use Rattle.std.proofs.Common.{◌≡◌, ◌*◌, ◌∙◌, refl, arith, rules}
+use Rattle.types.specs.Lists.{zero_node}
 use Rattle.catalogue_file.proofs.Nodes.{left, node_read, no_node}
 use Rattle.catalogue_file.proofs.parts.node_at.Goals as goal
 
@@ -8,4 +9,5 @@ returns-in-len5-up c =
 
 pub returns-in_default : goal.returns-in_default
 returns-in_default c =
-    no_node c.args.rest.now c.unwrap_or.result.now c.args.i (left c.args.rest.now (5 * c.args.i) _ _ _ c.get.ensures.lookup refl c.unwrap_or.ensures) c.in_default.len_below
+    let zero : c.default.result ≡ zero_node = search rules in
+    zero ∙ no_node c.args.rest.now c.unwrap_or.result.now c.args.i (left c.args.rest.now (5 * c.args.i) _ _ _ c.get.ensures.lookup refl c.unwrap_or.ensures) c.in_default.len_below
