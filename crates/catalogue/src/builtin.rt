@@ -1,52 +1,52 @@
 // The built-in catalogue: eight primitives of pay formulas, each with a normal list.
 ghost use Rattle.std.specs.Prelude.{◌≡◌, ℕ, ◌≤◌, length, slice_index_or};
-ghost use Rattle.catalogue.specs.Entries.{no_entry};
+ghost use Rattle.catalogue.specs.Entries.{no_entry, list_of};
 ghost use Rattle.catalogue.specs.Table.{builtin as the_table};
 ghost use Rattle.catalogue.specs.Lawfulness.{table_few, table_lawful};
 
 use crate::interface::Catalogue;
 use crate::names::same_name;
-use types::TypeNode;
+use types::{ARROW, BASE, TypeNode, VARIABLE};
 
+#[derive(Clone, Copy)]
 struct Row {
     name: &'static [u8],
     list: &'static [TypeNode],
 }
 
-const COUNT: u16 = 8;
-
+// A constant calls no function, so the nodes are written out.
 const HOURS: TypeNode = TypeNode {
-    kind: 1,
+    kind: BASE,
     left: 0,
     right: 0,
 };
 
 const RATE: TypeNode = TypeNode {
-    kind: 1,
+    kind: BASE,
     left: 1,
     right: 0,
 };
 
 const GROSS: TypeNode = TypeNode {
-    kind: 1,
+    kind: BASE,
     left: 2,
     right: 0,
 };
 
 const NET: TypeNode = TypeNode {
-    kind: 1,
+    kind: BASE,
     left: 3,
     right: 0,
 };
 
 const PAID: TypeNode = TypeNode {
-    kind: 1,
+    kind: BASE,
     left: 4,
     right: 0,
 };
 
 const FLAG: TypeNode = TypeNode {
-    kind: 1,
+    kind: BASE,
     left: 5,
     right: 0,
 };
@@ -59,12 +59,12 @@ const ROWS: [Row; 8] = [
             RATE,
             GROSS,
             TypeNode {
-                kind: 2,
+                kind: ARROW,
                 left: 1,
                 right: 2,
             },
             TypeNode {
-                kind: 2,
+                kind: ARROW,
                 left: 0,
                 right: 3,
             },
@@ -75,12 +75,12 @@ const ROWS: [Row; 8] = [
         list: &[
             GROSS,
             TypeNode {
-                kind: 2,
+                kind: ARROW,
                 left: 0,
                 right: 0,
             },
             TypeNode {
-                kind: 2,
+                kind: ARROW,
                 left: 0,
                 right: 1,
             },
@@ -92,7 +92,7 @@ const ROWS: [Row; 8] = [
             GROSS,
             NET,
             TypeNode {
-                kind: 2,
+                kind: ARROW,
                 left: 0,
                 right: 1,
             },
@@ -104,7 +104,7 @@ const ROWS: [Row; 8] = [
             NET,
             PAID,
             TypeNode {
-                kind: 2,
+                kind: ARROW,
                 left: 0,
                 right: 1,
             },
@@ -116,12 +116,12 @@ const ROWS: [Row; 8] = [
             HOURS,
             FLAG,
             TypeNode {
-                kind: 2,
+                kind: ARROW,
                 left: 0,
                 right: 1,
             },
             TypeNode {
-                kind: 2,
+                kind: ARROW,
                 left: 0,
                 right: 2,
             },
@@ -132,22 +132,22 @@ const ROWS: [Row; 8] = [
         list: &[
             FLAG,
             TypeNode {
-                kind: 0,
+                kind: VARIABLE,
                 left: 0,
                 right: 0,
             },
             TypeNode {
-                kind: 2,
+                kind: ARROW,
                 left: 1,
                 right: 1,
             },
             TypeNode {
-                kind: 2,
+                kind: ARROW,
                 left: 1,
                 right: 2,
             },
             TypeNode {
-                kind: 2,
+                kind: ARROW,
                 left: 0,
                 right: 3,
             },
@@ -174,42 +174,19 @@ impl Catalogue for Builtin {
     ghost lawful = { λ _. table_lawful };
 
     fn count(&self) -> u16 {
-        COUNT
+        ROWS.len() as u16
     }
 
     fn find(&self, name: &[u8]) -> Option<u16> {
-        for k in 0..COUNT {
-            if same_name(ROWS[k as usize].name, name) {
-                return Some(k);
-            }
-        }
-        None
+        (0..self.count()).find(|k| same_name(self.name(*k), name))
     }
 
     fn nodes(&self, k: u16) -> u16 {
-        if k >= COUNT {
-            return 0;
-        }
-        ROWS[k as usize].list.len() as u16
+        self.list(k).len() as u16
     }
 
     fn node(&self, k: u16, i: u16) -> TypeNode {
-        if k >= COUNT {
-            return TypeNode {
-                kind: 0,
-                left: 0,
-                right: 0,
-            };
-        }
-        let list = ROWS[k as usize].list;
-        if i as usize >= list.len() {
-            return TypeNode {
-                kind: 0,
-                left: 0,
-                right: 0,
-            };
-        }
-        list[i as usize]
+        self.list(k).get(i as usize).copied().unwrap_or_default()
     }
 }
 
@@ -218,9 +195,13 @@ impl Builtin {
     pub fn name(&self, k: u16) -> &'static [u8]
         ensures { result.now ≡ (slice_index_or the_table k no_entry).name }
     {
-        if k >= COUNT {
-            return b"";
-        }
-        ROWS[k as usize].name
+        ROWS.get(k as usize).map_or(&[], |row| row.name)
+    }
+
+    // The list of entry k, empty where there is no entry k.
+    fn list(&self, k: u16) -> &'static [TypeNode]
+        ensures { result.now ≡ list_of the_table k }
+    {
+        ROWS.get(k as usize).map_or(&[], |row| row.list)
     }
 }

@@ -1,5 +1,7 @@
+pub mod Ranges
 pub mod Places
 pub mod Names
 pub mod Nodes
 pub mod Lengths
 pub mod Empty
+pub mod Framed

@@ -1,5 +1,7 @@
 -- Nodes of five bytes each: how many there are, and where each is read.
-use Rattle.std.proofs.Common.{◌≡◌, ℕ, zero, suc, ◌+◌, ◌*◌, ◌/◌, ◌<◌, ◌≤◌, List, [], ◌∷◌, length, get_or, sym, refl, ap, ◌∙◌, le_of_suc-le-suc, not-suc-le-zero, arith}
+use Rattle.std.proofs.Common.{◌≡◌, ℕ, zero, suc, ◌+◌, ◌-◌, ◌*◌, ◌/◌, ◌<◌, ◌≤◌, List, [], ◌∷◌, length, get_or, get_or-drop, drop, length-drop, Option, Some, None, unwrap_or, Bor, ⊎_elim, sym, refl, ap, ◌∙◌, arith}
+use Rattle.std.specs.Slice.{IsGetRangeResult}
+use Rattle.std.proofs.lemmas.List.{get_or_past, drop_all, take_rest}
 use Rattle.types.specs.declared.TypeNode.{TypeNode}
 use Rattle.types.specs.Lists.{node, zero_node}
 use Rattle.catalogue_file.specs.Numbers.{number}
@@ -17,30 +19,45 @@ nodes_fill (k ∷ l ∷ m ∷ r ∷ s ∷ bs) = let fill = nodes_fill bs in (ome
 pub nodes_counted : (bs : List ℕ) → length bs / 5 ≡ length (nodes_of bs)
 nodes_counted bs = let fill = nodes_fill bs in omega arith
 
--- the node that is read at an offset
-abbrev read_at : List ℕ → ℕ → TypeNode
-read_at bs at = node (get_or bs at 0) (number (get_or bs (at + 1) 0 ∷ get_or bs (at + 1 + 1) 0 ∷ [])) (number (get_or bs (at + 3) 0 ∷ get_or bs (at + 3 + 1) 0 ∷ []))
+-- behind five bytes for each of i nodes the other nodes stand
+nodes_behind : (i : ℕ) (bs : List ℕ) → nodes_of (drop (5 * i) bs) ≡ drop i (nodes_of bs)
+nodes_behind zero bs = refl
+nodes_behind (suc i) [] = let moved : 5 * suc i ≡ suc (suc (suc (suc (suc (5 * i))))) = omega arith in rw moved refl
+nodes_behind (suc i) (k ∷ []) = let moved : 5 * suc i ≡ suc (suc (suc (suc (suc (5 * i))))) = omega arith in rw moved refl
+nodes_behind (suc i) (k ∷ l ∷ []) = let moved : 5 * suc i ≡ suc (suc (suc (suc (suc (5 * i))))) = omega arith in rw moved refl
+nodes_behind (suc i) (k ∷ l ∷ m ∷ []) = let moved : 5 * suc i ≡ suc (suc (suc (suc (suc (5 * i))))) = omega arith in rw moved refl
+nodes_behind (suc i) (k ∷ l ∷ m ∷ r ∷ []) = let moved : 5 * suc i ≡ suc (suc (suc (suc (suc (5 * i))))) = omega arith in rw moved refl
+nodes_behind (suc i) (k ∷ l ∷ m ∷ r ∷ s ∷ bs) =
+    let moved : 5 * suc i ≡ suc (suc (suc (suc (suc (5 * i))))) = omega arith in rw moved (nodes_behind i bs)
 
--- five bytes in front move each node by five
-later : (k l m r s : ℕ) (bs : List ℕ) (at : ℕ) → read_at bs at ≡ read_at (k ∷ l ∷ m ∷ r ∷ s ∷ bs) (at + 5)
-later k l m r s bs at =
-    let a : at + 5 ≡ suc (suc (suc (suc (suc at)))) = omega arith in
-    let b : at + 5 + 1 ≡ suc (suc (suc (suc (suc (at + 1))))) = omega arith in
-    let c : at + 5 + 1 + 1 ≡ suc (suc (suc (suc (suc (at + 1 + 1))))) = omega arith in
-    let d : at + 5 + 3 ≡ suc (suc (suc (suc (suc (at + 3))))) = omega arith in
-    let e : at + 5 + 3 + 1 ≡ suc (suc (suc (suc (suc (at + 3 + 1))))) = omega arith in
-    rw (e, d, c, b, a) refl
+-- the node that five bytes in front are, or none in fewer
+first_node : (bs : List ℕ) → 5 ≤ length bs → node (get_or bs 0 0) (number (get_or bs 1 0 ∷ get_or bs 2 0 ∷ [])) (number (get_or bs 3 0 ∷ get_or bs 4 0 ∷ [])) ≡ get_or (nodes_of bs) 0 zero_node
+first_node [] h = absurd (omega arith)
+first_node (k ∷ []) h = absurd (omega arith)
+first_node (k ∷ l ∷ []) h = absurd (omega arith)
+first_node (k ∷ l ∷ m ∷ []) h = absurd (omega arith)
+first_node (k ∷ l ∷ m ∷ r ∷ []) h = absurd (omega arith)
+first_node (k ∷ l ∷ m ∷ r ∷ s ∷ bs) h = refl
 
-node_stands : (bs : List ℕ) (i : ℕ) → i < length (nodes_of bs) → read_at bs (5 * i) ≡ get_or (nodes_of bs) i zero_node
-node_stands [] i h = absurd (not-suc-le-zero h)
-node_stands (k ∷ []) i h = absurd (not-suc-le-zero h)
-node_stands (k ∷ l ∷ []) i h = absurd (not-suc-le-zero h)
-node_stands (k ∷ l ∷ m ∷ []) i h = absurd (not-suc-le-zero h)
-node_stands (k ∷ l ∷ m ∷ r ∷ []) i h = absurd (not-suc-le-zero h)
-node_stands (k ∷ l ∷ m ∷ r ∷ s ∷ bs) zero h = refl
-node_stands (k ∷ l ∷ m ∷ r ∷ s ∷ bs) (suc i) h =
-    let moved : 5 * suc i ≡ 5 * i + 5 = omega arith in
-    ap (read_at (k ∷ l ∷ m ∷ r ∷ s ∷ bs)) moved ∙ sym (later k l m r s bs (5 * i)) ∙ node_stands bs i (le_of_suc-le-suc h)
+-- what is left of a list behind a place, nothing behind its end
+pub left : (bs : List ℕ) (n : ℕ) (r : Option (Bor (List ℕ))) (none part : Bor (List ℕ)) → IsGetRangeResult bs n (length bs) r → none.now ≡ [] → part ≡ unwrap_or r none → part.now ≡ drop n bs
+left bs n None none part h e is = ap (λ (x : Bor (List ℕ)). x.now) is ∙ e ∙ sym (drop_all n bs (⊎_elim (λ a. omega arith) (λ a. omega arith) h.0))
+left bs n (Some x) none part h e is = ap (λ (y : Bor (List ℕ)). y.now) is ∙ h.0.2 ∙ take_rest bs n
 
-pub node_read : (bs : List ℕ) (i left right : ℕ) → i < length (nodes_of bs) → left ≡ number (get_or bs (5 * i + 1) 0 ∷ get_or bs (5 * i + 1 + 1) 0 ∷ []) → right ≡ number (get_or bs (5 * i + 3) 0 ∷ get_or bs (5 * i + 3 + 1) 0 ∷ []) → node (get_or bs (5 * i) 0) left right ≡ get_or (nodes_of bs) i zero_node
-node_read bs i left right h p q = ap (λ n. node (get_or bs (5 * i) 0) n right) p ∙ ap (node (get_or bs (5 * i) 0) (number (get_or bs (5 * i + 1) 0 ∷ get_or bs (5 * i + 1 + 1) 0 ∷ []))) q ∙ node_stands bs i h
+module _ (bs part : List ℕ) (i : ℕ) (is : part ≡ drop (5 * i) bs) where
+  pub node_read : (l r : ℕ) → 5 ≤ length part → l ≡ number (get_or part 1 0 ∷ get_or part 2 0 ∷ []) → r ≡ number (get_or part 3 0 ∷ get_or part 4 0 ∷ []) → node (get_or part 0 0) l r ≡ get_or (nodes_of bs) i zero_node
+  node_read l r h p q =
+      let here : i + 0 ≡ i = omega arith in
+      ap (λ n. node (get_or part 0 0) n r) p
+      ∙ ap (node (get_or part 0 0) (number (get_or part 1 0 ∷ get_or part 2 0 ∷ []))) q
+      ∙ first_node part h
+      ∙ ap (λ xs. get_or (nodes_of xs) 0 zero_node) is
+      ∙ ap (λ (xs : List TypeNode). get_or xs 0 zero_node) (nodes_behind i bs)
+      ∙ get_or-drop i (nodes_of bs) 0 zero_node
+      ∙ ap (λ j. get_or (nodes_of bs) j zero_node) here
+
+  pub no_node : length part < 5 → zero_node ≡ get_or (nodes_of bs) i zero_node
+  no_node h =
+      let fill = nodes_fill bs in
+      let long : length part ≡ length bs - 5 * i = ap length is ∙ length-drop (5 * i) bs in
+      sym (get_or_past (nodes_of bs) i zero_node (omega arith))

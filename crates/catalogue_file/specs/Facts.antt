@@ -49,6 +49,15 @@ module _ {l : Layout} {bs : List ℕ} where
   one_framed : IsProp (Framed l bs)
   one_framed p q = λ i. record { sized = one_sized p.sized q.sized i; headed = one_headed p.headed q.headed i; laid = one_laid p.laid q.laid i }
 
+  pub sized_known : ∥ Sized l bs ∥₁ → Sized l bs
+  sized_known h = ∥∥₁_elim h one_sized (λ sized. sized)
+
+  pub headed_known : ∥ Headed l bs ∥₁ → Headed l bs
+  headed_known h = ∥∥₁_elim h one_headed (λ headed. headed)
+
+  pub laid_known : ∥ Laid l bs ∥₁ → Laid l bs
+  laid_known h = ∥∥₁_elim h one_laid (λ laid. laid)
+
   pub framed_known : ∥ Sound l bs ∥₁ → Framed l bs
   framed_known h = ∥∥₁_elim h one_framed (λ sound. sound.framed)
 

@@ -3,8 +3,6 @@ use Rattle.std.specs.Prelude.{◌≡◌, ℕ, zero, suc, ◌+◌, ◌<◌, ◌�
 use Rattle.types.specs.Lists.{Lawful}
 use Rattle.catalogue.specs.Names.{Same}
 use Rattle.catalogue_file.specs.declared.layout.Layout.{Layout}
-use Rattle.catalogue_file.specs.declared.questions.Question.{Question}
-use Rattle.catalogue_file.specs.declared.questions.Question.TheVariants.{Form, Nodes, Name}
 use Rattle.catalogue_file.specs.Numbers.{number}
 use Rattle.catalogue_file.specs.Layouts.{pair_place}
 use Rattle.catalogue_file.specs.Parts.{Formed}
@@ -42,9 +40,3 @@ LawfulAt l bs k = Lawful (entry l bs k).list
 -- no earlier entry bears the name of entry k
 abbrev pub FreshAt : Layout → List ℕ → ℕ → Type 0
 FreshAt l bs k = (j : ℕ) → j < k → Same (entry l bs j).name (entry l bs k).name → ⊥
-
--- what each question asks of entry k
-abbrev pub Asked : Question → Layout → List ℕ → ℕ → Type 0
-Asked Form = FormedAt
-Asked Nodes = LawfulAt
-Asked Name = FreshAt

@@ -3,35 +3,19 @@ ghost use Rattle.std.specs.Result.{MatchResult};
 ghost use Rattle.catalogue_file.specs.Layouts.{Fit, short};
 ghost use Rattle.catalogue_file.specs.Checking.{Sound, Refuses};
 ghost use Rattle.catalogue_file.specs.Faults.{says};
+ghost use Rattle.catalogue_file.specs.Contents.{Means};
 
 use crate::fault::FileFault;
+use crate::file::FileCatalogue;
 use crate::layout::{Layout, SHORT};
-use crate::questions::{Question, first_failing, is_headed, is_laid, is_sized};
+use crate::sized::SizedFile;
 
-// Puts the questions of a layout to a file.
-pub(crate) fn check_in(layout: Layout, bytes: &[u8]) -> Result<(), FileFault>
+// Puts the questions of a layout to a file, and answers the catalogue of its entries.
+pub(crate) fn check_in(layout: Layout, bytes: &[u8]) -> Result<FileCatalogue<'_>, FileFault>
     requires { Fit layout }
-    ensures { MatchResult result (λ _. Sound layout bytes.now) (λ f. Refuses layout bytes.now (says f)) }
+    ensures { MatchResult result (λ c. Means layout bytes.now c) (λ f. Refuses layout bytes.now (says f)) }
 {
-    if !is_sized(layout, bytes) {
-        return Err(FileFault::Length);
-    }
-    if !is_headed(layout, bytes) {
-        return Err(FileFault::Count);
-    }
-    if !is_laid(layout, bytes) {
-        return Err(FileFault::Gap);
-    }
-    if let Some(k) = first_failing(Question::Form, layout, bytes) {
-        return Err(FileFault::Malformed(k));
-    }
-    if let Some(k) = first_failing(Question::Nodes, layout, bytes) {
-        return Err(FileFault::Unlawful(k));
-    }
-    if let Some(k) = first_failing(Question::Name, layout, bytes) {
-        return Err(FileFault::Repeated(k));
-    }
-    Ok(())
+    SizedFile::new(layout, bytes)?.headed()?.laid()?.sound()
 }
 
 // Whether the bytes are a catalogue file: accepted exactly when all questions are answered with yes, else refused by the
@@ -39,5 +23,6 @@ pub(crate) fn check_in(layout: Layout, bytes: &[u8]) -> Result<(), FileFault>
 pub fn check_file(bytes: &[u8]) -> Result<(), FileFault>
     ensures { MatchResult result (λ _. Sound short bytes.now) (λ f. Refuses short bytes.now (says f)) }
 {
-    check_in(SHORT, bytes)
+    check_in(SHORT, bytes)?;
+    Ok(())
 }

@@ -1,7 +1,4 @@
 // Layouts of catalogue files: where the numbers stand, and how much a file may hold.
-ghost use Rattle.std.specs.Prelude.{◌≡◌, ◌≤◌};
-ghost use Rattle.catalogue_file.specs.Layouts.{Fit, pair_place};
-
 #[derive(Clone, Copy)]
 pub struct Layout {
     // How many bytes stand before the count, and the number that they write.
@@ -27,14 +24,3 @@ pub const SHORT: Layout = Layout {
     entries: 256,
     nodes: 64,
 };
-
-impl Layout {
-    // Where pair k starts; with k the count, where the entries start.
-    pub(crate) fn pair_start(self, k: usize) -> usize
-        requires fit { Fit self }
-        requires few { k ≤ 65535 }
-        ensures { result ≡ pair_place self k }
-    {
-        self.front + self.width + 2 * self.width * k
-    }
-}

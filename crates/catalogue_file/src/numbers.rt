@@ -8,11 +8,7 @@ pub fn read_number(bytes: &[u8]) -> usize
     ensures value { result ≡ number bytes.now }
     ensures small { result < 2 ^ 32 }
 {
-    let mut n = 0;
-    let mut i = bytes.len();
-    while i > 0 {
-        i -= 1;
-        n = bytes[i] as usize + 256 * n;
-    }
-    n
+    let mut padded = [0; 4];
+    padded[..bytes.len()].copy_from_slice(bytes);
+    u32::from_le_bytes(padded) as usize
 }

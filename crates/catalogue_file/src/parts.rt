@@ -11,23 +11,14 @@ use types::{MOST_NODES, TypeNode, is_lawful_node};
 // How many bytes a node has.
 const NODE_BYTES: usize = 5;
 
-// The name of an entry.
-pub fn name_in(part: &[u8]) -> &[u8]
-    ensures { result.now ≡ name_of part.now }
+// The name of an entry, and what stands behind it.
+pub fn split(part: &[u8]) -> (&[u8], &[u8])
+    ensures name { result.0.now ≡ name_of part.now }
+    ensures rest { result.1.now ≡ rest_of part.now }
 {
     match part {
-        [] => part,
-        [length, rest @ ..] => &rest[0..(*length as usize).min(rest.len())],
-    }
-}
-
-// What stands behind the name of an entry.
-pub fn rest_in(part: &[u8]) -> &[u8]
-    ensures { result.now ≡ rest_of part.now }
-{
-    match part {
-        [] => part,
-        [length, rest @ ..] => &rest[(*length as usize).min(rest.len())..rest.len()],
+        [] => (part, part),
+        [length, rest @ ..] => rest.split_at((*length as usize).min(rest.len())),
     }
 }
 
@@ -39,30 +30,17 @@ pub fn node_count(rest: &[u8]) -> usize
     rest.len() / NODE_BYTES
 }
 
-// The number of two bytes at an offset.
-fn short_at(bytes: &[u8], at: usize) -> u16
-    requires { at + 1 < length bytes.now }
-    ensures { result ≡ number (slice_index bytes.now at ∷ slice_index bytes.now (at + 1) ∷ []) }
-{
-    bytes[at] as u16 + 256 * bytes[at + 1] as u16
-}
-
 // Node i, or else the zero node.
-pub fn node_at(rest: &[u8], i: usize) -> TypeNode
+pub fn node_at(rest: &[u8], i: u16) -> TypeNode
     ensures { result ≡ slice_index_or (nodes_of rest.now) i zero_node }
 {
-    if i >= node_count(rest) {
-        return TypeNode {
-            kind: 0,
-            left: 0,
-            right: 0,
-        };
-    }
-    let at = NODE_BYTES * i;
-    TypeNode {
-        kind: rest[at],
-        left: short_at(rest, at + 1),
-        right: short_at(rest, at + 3),
+    match rest.get(NODE_BYTES * i as usize..).unwrap_or(&[]) {
+        [kind, a, b, c, d, ..] => TypeNode {
+            kind: *kind,
+            left: u16::from_le_bytes([*a, *b]),
+            right: u16::from_le_bytes([*c, *d]),
+        },
+        _ => TypeNode::default(),
     }
 }
 
@@ -70,15 +48,13 @@ pub fn node_at(rest: &[u8], i: usize) -> TypeNode
 pub fn is_formed(classes: &Classes, most: usize, part: &[u8]) -> bool
     ensures { Decides result (Formed most part.now) }
 {
-    if part.len() == 0 || part[0] as usize >= part.len() {
-        return false;
-    }
-    if !is_name(classes, name_in(part)) {
-        return false;
-    }
-    let rest = rest_in(part);
+    let (name, rest) = split(part);
     let count = node_count(rest);
-    rest.len() == NODE_BYTES * count && count > 0 && count <= most
+    part.first()
+        .is_some_and(|length| (*length as usize) < part.len())
+        && is_name(classes, name)
+        && rest.len() == NODE_BYTES * count
+        && (1..=most).contains(&count)
 }
 
 // Whether the nodes are a lawful list.
@@ -86,13 +62,6 @@ pub fn are_lawful(rest: &[u8]) -> bool
     ensures { Decides result (Lawful (nodes_of rest.now)) }
 {
     let count = node_count(rest);
-    if count == 0 || count > MOST_NODES {
-        return false;
-    }
-    for place in 0..count {
-        if !is_lawful_node(node_at(rest, place), place) {
-            return false;
-        }
-    }
-    true
+    (1..=MOST_NODES).contains(&count)
+        && (0..count as u16).all(|place| is_lawful_node(node_at(rest, place), place as usize))
 }

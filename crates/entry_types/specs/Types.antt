@@ -1,5 +1,5 @@
--- The printed type of an entry of a catalogue.
-use Rattle.std.specs.Prelude.{◌≡◌, ℕ, ◌≤◌, List, ◌++◌, length, drop}
+-- The printed type of an entry of a catalogue, and its line.
+use Rattle.std.specs.Prelude.{◌≡◌, ℕ, ◌≤◌, List, [], ◌∷◌, ◌++◌, length, drop, codes}
 use Rattle.catalogue.specs.Entries.{Entry, list_of}
 use Rattle.printing.specs.Text.{text}
 use Rattle.types.specs.Lists.{meaning}
@@ -9,3 +9,7 @@ pub record Typed (es : List Entry) (k : ℕ) (before after : List ℕ) (n : ℕ)
   pub long : n ≡ length (text (meaning (list_of es k)))
   pub fits : n ≤ length before
   pub written : after ≡ text (meaning (list_of es k)) ++ drop n before
+
+-- the line of an entry
+abbrev pub line : List ℕ → List ℕ → List ℕ
+line name text = name ++ codes " : " ++ text ++ (10 ∷ [])

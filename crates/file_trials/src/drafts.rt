@@ -72,14 +72,10 @@ impl Draft {
 
 // Why a file is refused.
 pub fn fault_of(bytes: &[u8]) -> Option<FileFault> {
-    let opened = open_file(bytes);
-    opened.fault
+    open_file(bytes).fault
 }
 
 // The number of a file's refusal, 0 where it is accepted.
 pub fn number_of(bytes: &[u8]) -> u16 {
-    match fault_of(bytes) {
-        Some(fault) => Refusal::from(fault).number,
-        None => 0,
-    }
+    fault_of(bytes).map_or(0, |fault| Refusal::from(fault).number)
 }

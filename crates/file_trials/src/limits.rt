@@ -8,16 +8,12 @@ use std::process::Abort;
 use std::test::Fail;
 use types::TypeNode;
 
-fn node(kind: u8, left: u16, right: u16) -> TypeNode {
-    TypeNode { kind, left, right }
-}
-
 // A file of so many entries with names of two letters, each of the type hours.
 fn many(heap: Global, count: u16) -> Result<Vec<u8>, AllocError> {
     let mut draft = Draft::new(heap);
     for k in 0..count {
         let name = [97 + (k / 25 % 25) as u8, 97 + (k % 25) as u8];
-        draft.add(&name, &[node(1, 0, 0)])?;
+        draft.add(&name, &[TypeNode::base(0)])?;
     }
     draft.file(heap)
 }
@@ -31,7 +27,7 @@ fn second(
     answer: Option<FileFault>,
 ) -> Result<(), Fail> {
     let mut draft = Draft::new(heap);
-    draft.add(b"first", &[node(1, 0, 0)])?;
+    draft.add(b"first", &[TypeNode::base(0)])?;
     draft.add(name, nodes)?;
     assert_eq!(rt; draft.fault(heap)?, answer);
     Ok(())
@@ -60,8 +56,7 @@ fn counted(
 }
 
 fn count_of(bytes: &[u8]) -> u16 {
-    let opened = open_file(bytes);
-    opened.catalogue.count()
+    open_file(bytes).catalogue.count()
 }
 
 #[test]
@@ -101,7 +96,7 @@ fn places(rt: HostRuntime) -> Result<(), Fail> {
 #[test]
 fn names(rt: HostRuntime) -> Result<(), Fail> {
     let heap = rt.alloc();
-    let hours = [node(1, 0, 0)];
+    let hours = [TypeNode::base(0)];
     let letters = [b'a'; 32];
     let malformed = Some(FileFault::Malformed(1));
     second(&rt, heap, &letters[0..31], &hours, None)?;
@@ -115,14 +110,14 @@ fn names(rt: HostRuntime) -> Result<(), Fail> {
 #[test]
 fn nodes(rt: HostRuntime) -> Result<(), Fail> {
     let heap = rt.alloc();
-    let hours = [node(1, 0, 0); 65];
+    let hours = [TypeNode::base(0); 65];
     let malformed = Some(FileFault::Malformed(1));
     let unlawful = Some(FileFault::Unlawful(1));
     second(&rt, heap, b"x", &hours[0..64], None)?;
     second(&rt, heap, b"x", &hours, malformed)?;
     second(&rt, heap, b"x", &[], malformed)?;
-    second(&rt, heap, b"x", &[node(2, 1, 0), node(1, 0, 0)], unlawful)?;
-    second(&rt, heap, b"x", &[node(1, 6, 0)], unlawful)
+    second(&rt, heap, b"x", &[TypeNode::arrow(1, 0), TypeNode::base(0)], unlawful)?;
+    second(&rt, heap, b"x", &[TypeNode::base(6)], unlawful)
 }
 
 // No bytes, a name that is longer than its entry, and four bytes over.
@@ -141,12 +136,17 @@ fn broken_entries(rt: HostRuntime) -> Result<(), Fail> {
 #[test]
 fn questions_in_order(rt: HostRuntime) -> Result<(), Fail> {
     let heap = rt.alloc();
-    let hours = [node(1, 0, 0)];
+    let hours = [TypeNode::base(0)];
     let mut draft = Draft::new(heap);
     draft.add(b"x", &hours)?;
     draft.add(b"x", &hours)?;
     assert_eq!(rt; draft.fault(heap)?, Some(FileFault::Repeated(1)));
-    draft.add(b"y", &[node(3, 0, 0)])?;
+    let unknown = TypeNode {
+        kind: 3,
+        left: 0,
+        right: 0,
+    };
+    draft.add(b"y", &[unknown])?;
     assert_eq!(rt; draft.fault(heap)?, Some(FileFault::Unlawful(2)));
     draft.add(b"Z", &hours)?;
     assert_eq!(rt; draft.fault(heap)?, Some(FileFault::Malformed(3)));

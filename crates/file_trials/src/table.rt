@@ -10,11 +10,9 @@ use types::TypeNode;
 
 // The list of entry k of the built-in catalogue.
 fn list_of(heap: Global, k: u16) -> Result<Vec<TypeNode>, AllocError> {
-    let mut list = Vec::new(heap);
-    for i in 0..Builtin.nodes(k) {
-        list.push(Builtin.node(k, i))?;
-    }
-    Ok(list)
+    (0..Builtin.nodes(k))
+        .map(|i| Builtin.node(k, i))
+        .collect(heap)
 }
 
 // The built-in catalogue as a file.

@@ -5,13 +5,12 @@
 
 use anyhow::anyhow;
 use catalogue::interface::Catalogue;
-use catalogue_file::fault::FileFault;
 use catalogue_file::file::FileCatalogue;
 use catalogue_file::opening::open_file;
 use desk::serve::{read_input, serve};
-use entry_types::type_of;
+use entry_types::{type_of, write_entry};
 use refusal::Refusal;
-use std::io::{Read, Write};
+use std::io::Read;
 use std::{env, fs, io};
 
 // One byte more than an accepted file has, so that a longer one is told from it.
@@ -31,27 +30,19 @@ fn load(rt: &HostRuntime) -> anyhow::Result<Vec<u8>> {
     Ok(bytes)
 }
 
-// One entry: its name and its type.
-fn say_entry(rt: &HostRuntime, name: &[u8], text: &[u8]) -> io::Result<()> {
-    let mut to = rt.stdout();
-    to.write_all(name)?;
-    to.write_all(b" : ")?;
-    to.write_all(text)?;
-    to.write_all(b"\n")
-}
-
-fn say_refusal(rt: &HostRuntime, fault: FileFault) -> io::Result<()> {
-    let refusal = Refusal::from(fault);
-    println!(rt; "{refusal}")
+// Entry k: its name and its type.
+fn say(rt: &HostRuntime, catalogue: FileCatalogue<'_>, k: u16) -> io::Result<()> {
+    let mut out = [0; 4096];
+    let text = match type_of(&catalogue, k, &mut out) {
+        Some(length) => &out[..length],
+        None => b"too long",
+    };
+    write_entry(&mut rt.stdout(), catalogue.name(k), text)
 }
 
 fn list(rt: &HostRuntime, catalogue: FileCatalogue<'_>) -> io::Result<()> {
-    let mut out = [0u8; 4096];
-    'entries: for k in 0..catalogue.count() {
-        match type_of(&catalogue, k, &mut out) {
-            Some(length) => say_entry(rt, catalogue.name(k), &out[0..length])?,
-            None => say_entry(rt, catalogue.name(k), b"too long")?,
-        }
+    for k in 0..catalogue.count() {
+        say(rt, catalogue, k)?;
     }
     Ok(())
 }
@@ -59,14 +50,13 @@ fn list(rt: &HostRuntime, catalogue: FileCatalogue<'_>) -> io::Result<()> {
 fn run(rt: &HostRuntime) -> anyhow::Result<()> {
     let bytes = load(rt)?;
     let opened = open_file(&bytes);
-    match opened.fault {
-        Some(fault) => say_refusal(rt, fault)?,
-        None => {
-            list(rt, opened.catalogue)?;
-            let input = read_input(rt)?;
-            serve(rt, opened.catalogue, &input)?;
-        }
+    if let Some(fault) = opened.fault {
+        println!(rt; "{}", Refusal::from(fault))?;
+        return Ok(());
     }
+    list(rt, opened.catalogue)?;
+    let input = read_input(rt)?;
+    serve(rt, opened.catalogue, &input)?;
     Ok(())
 }
 

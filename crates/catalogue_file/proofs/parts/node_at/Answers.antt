@@ -1,12 +1,13 @@
-use Rattle.std.proofs.Common.{sym, arith}
-use Rattle.std.proofs.lemmas.List.{get_or_past}
+use Rattle.std.proofs.Common.{◌≡◌, ◌*◌, ◌∙◌, refl, arith, rules}
 use Rattle.types.specs.Lists.{zero_node}
-use Rattle.catalogue_file.specs.Parts.{nodes_of}
-use Rattle.catalogue_file.proofs.Nodes.{node_read}
+use Rattle.catalogue_file.proofs.Nodes.{left, node_read, no_node}
 use Rattle.catalogue_file.proofs.parts.node_at.Goals as goal
 
-pub returns-then-i-node_count : goal.returns-then-i-node_count
-returns-then-i-node_count c = sym (get_or_past (nodes_of c.args.rest.now) c.args.i zero_node (omega (arith, c.node_count.ensures.value)))
+pub returns-in-len5-up : goal.returns-in-len5-up
+returns-in-len5-up c =
+    node_read c.args.rest.now c.unwrap_or.result.now c.args.i (left c.args.rest.now (5 * c.args.i) _ _ _ c.get.ensures.lookup refl c.unwrap_or.ensures) _ _ c.in-len5-up.len_at_least (omega (arith, c.from_le_bytes.ensures)) (omega (arith, c.from_le_bytes-in-len5-up.ensures))
 
-pub returns : goal.returns
-returns c = node_read c.args.rest.now c.args.i _ _ (omega (arith, c.node_count.ensures.value)) c.short_at.ensures c.short_at-2.ensures
+pub returns-in_default : goal.returns-in_default
+returns-in_default c =
+    let zero : c.default.result ≡ zero_node = search rules in
+    zero ∙ no_node c.args.rest.now c.unwrap_or.result.now c.args.i (left c.args.rest.now (5 * c.args.i) _ _ _ c.get.ensures.lookup refl c.unwrap_or.ensures) c.in_default.len_below

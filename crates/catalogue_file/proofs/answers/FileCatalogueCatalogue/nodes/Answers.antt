@@ -4,4 +4,4 @@ use Rattle.catalogue_file.proofs.Lengths.{count_short}
 use Rattle.catalogue_file.proofs.answers.FileCatalogueCatalogue.nodes.Goals as goal
 
 pub overflow_cast-result : goal.overflow_cast-result
-overflow_cast-result c = omega (arith, count_short (contents c.args.self.now) c.args.k _ c.part.result.now _ (contents_lawful c.args.self.now) c.part.ensures c.rest_in.ensures c.node_count.ensures.value)
+overflow_cast-result c = omega (arith, count_short (contents c.args.self.now) c.args.k _ c.part.result.now _ (contents_lawful c.args.self.now) c.part.ensures c.split.ensures.rest c.node_count.ensures.value)
