@@ -9,10 +9,13 @@ ghost use Rattle.printing.specs.declared.ShowFault.TheVariants.{TooLong};
 
 use arrayvec::{ArrayString, CapacityError};
 use itoa::Buffer;
-use types::{ARROW, BASE, TypeNode, VARIABLE, is_lawful};
+use types::{ARROW, Shape, TypeNode, is_lawful};
 
 // The most bytes that a printed type may have.
 pub const MOST_BYTES: usize = 4096;
+
+// The names of the bases, by their codes.
+const BASE_NAMES: [&str; 6] = ["hours", "rate", "gross", "net", "paid", "flag"];
 
 // The text of a type, in a memory of its own.
 pub type TypeText = ArrayString<MOST_BYTES>;
@@ -47,21 +50,6 @@ fn push_letters(out: &mut TypeText, number: u16) -> Result<(), ShowFault>
     Ok(())
 }
 
-// The name of a base.
-fn base_name(code: u16) -> &'static str
-    requires { code ≤ 5 }
-    ensures { result.now ≡ slice_index_or base_names code unknown }
-{
-    match code {
-        0 => "hours",
-        1 => "rate",
-        2 => "gross",
-        3 => "net",
-        4 => "paid",
-        _ => "flag",
-    }
-}
-
 // Puts the text at a place behind a text.
 #[cycle(push_type)]
 fn push_type(out: &mut TypeText, list: &[TypeNode], place: u16) -> Result<(), ShowFault>
@@ -69,25 +57,20 @@ fn push_type(out: &mut TypeText, list: &[TypeNode], place: u16) -> Result<(), Sh
     requires here { place < length list.now }
     ensures { Added out.old.bytes (text (type_at list.now place)) out.new.bytes result }
 {
-    let node = list[place as usize];
-    if node.kind == VARIABLE {
-        return push_letters(out, node.left);
+    match list[place as usize].shape() {
+        Some(Shape::Variable(number)) => push_letters(out, number),
+        Some(Shape::Base(code)) => {
+            out.try_push_str(BASE_NAMES[code as usize])?;
+            Ok(())
+        }
+        Some(Shape::Arrow(left, right)) => push_arrow(out, list, left, right),
+        None => unreachable!(),
     }
-    if node.kind == BASE {
-        out.try_push_str(base_name(node.left))?;
-        return Ok(());
-    }
-    push_arrow(out, list, node.left, node.right)
 }
 
 // Puts the text of the arrow between two places behind a text.
 #[cycle(push_type)]
-fn push_arrow(
-    out: &mut TypeText,
-    list: &[TypeNode],
-    left: u16,
-    right: u16,
-) -> Result<(), ShowFault>
+fn push_arrow(out: &mut TypeText, list: &[TypeNode], left: u16, right: u16) -> Result<(), ShowFault>
     requires lawful { Lawful list.now }
     requires left { left < length list.now }
     requires right { right < length list.now }
