@@ -5,9 +5,9 @@ use Rattle.types.specs.declared.TypeNode.{TypeNode}
 use Rattle.types.specs.declared.Shape.{Shape}
 use Rattle.types.specs.declared.Shape.TheVariants.{Variable, Base, Arrow}
 use Rattle.types.specs.Types.{Ty, base, branch, apply}
-use Rattle.types.specs.Lists.{zero_node, Lawful, type_at}
+use Rattle.types.specs.Lists.{zero_node, type_at}
 use Rattle.types.specs.Shapes.{shape_of}
-use Rattle.instance.specs.Once.{Once}
+use Rattle.instance.specs.declared.matching.Matching.{Matching}
 use Rattle.instance.specs.Matching.{Gave, Taken, Given, Pending, Within, Passed, Clash, Stepped}
 use Rattle.instance.proofs.Shapes.{type_of, meant, meant_some, lower}
 use Rattle.instance.proofs.Places.{left_of, right_of, places_are_types}
@@ -23,7 +23,19 @@ no_arrow l (Variable v) t u e other = cc
 no_arrow l (Base d) t u e other = cc
 no_arrow l (Arrow a b) t u e other = other a b refl
 
-module _ (g s : List TypeNode) (lg : Lawful g) (ls : Lawful s) (once : Once s) (ns vs : List (Option ℕ)) (k : ℕ) (here : k < length g) (ins : Within (length s) ns vs (k + 1)) (place : ℕ) (marked : get_or ns k None ≡ Some place) where
+module _ (m : Matching) (k : ℕ) (here : k < length m.general.now) (ins : Within (length m.special.now) m.nodes m.variables (k + 1)) (place : ℕ) (marked : get_or m.nodes k None ≡ Some place) where
+  abbrev g : List TypeNode
+  g = m.general.now
+
+  abbrev s : List TypeNode
+  s = m.special.now
+
+  abbrev ns : List (Option ℕ)
+  ns = m.nodes
+
+  abbrev vs : List (Option ℕ)
+  vs = m.variables
+
   abbrev Asks : (ℕ → Ty) → ℕ → ℕ → Type 0
   Asks σ j q = j < k → apply σ (type_at g j) ≡ type_at s q
 
@@ -61,11 +73,11 @@ module _ (g s : List TypeNode) (lg : Lawful g) (ls : Lawful s) (once : Once s) (
   two_places : (t : List (Option ℕ)) (entry q : ℕ) (type : Ty) → Taken t entry q → ((x : ℕ) → get_or t entry None ≡ Some x → (x < length s) × (type ≡ type_at s x)) → q < length s → type ≡ type_at s q → ⊥
   two_places t entry q type taken at hq is =
       let w = at taken.other taken.has in
-      taken.differs (places_are_types s ls.each once taken.other q w.0 hq (sym w.1 ∙ is))
+      taken.differs (places_are_types s m.special_lawful.each m.special_once taken.other q w.0 hq (sym w.1 ∙ is))
 
   pub step_variable : (v : ℕ) → shape_of (get_or g k zero_node) ≡ Some (Variable v) → (vs' : List (Option ℕ)) (r : Bool) → Given vs vs' v place r → Stepped g s ns ns vs vs' k r
   step_variable v says vs' true w =
-      let is = meant g lg.each k here (Variable v) says in
+      let is = meant g m.general_lawful.each k here (Variable v) says in
       record {
         within = record { parts = λ j q h e. inside_below j q e h; named = gave_onto (λ _ q. q < length s) vs vs' v place w ins.named place_inside };
         onto = λ σ p.
@@ -81,14 +93,14 @@ module _ (g s : List TypeNode) (lg : Lawful g) (ls : Lawful s) (once : Once s) (
       }
   step_variable v says vs' false w =
       λ σ p.
-      (let is = meant g lg.each k here (Variable v) says in
+      (let is = meant g m.general_lawful.each k here (Variable v) says in
       two_places vs v place (σ v) w (λ x e. (ins.named v x e, p.named v x e)) place_inside (sym (ap (apply σ) is) ∙ asked σ p))
 
   -- a base is an instance of itself only
   step_base : (c : ℕ) → shape_of (get_or g k zero_node) ≡ Some (Base c) → shape_of (get_or s place zero_node) ≡ Some (Base c) → Passed g s ns ns vs vs k
   step_base c says same =
-      let is = meant g lg.each k here (Base c) says in
-      let has = meant s ls.each place place_inside (Base c) same in
+      let is = meant g m.general_lawful.each k here (Base c) says in
+      let has = meant s m.special_lawful.each place place_inside (Base c) same in
       record {
         within = record { parts = λ j q h e. inside_below j q e h; named = ins.named };
         onto = λ σ p. record { parts = λ j q h e. asked_below σ p j q e h; named = p.named };
@@ -98,8 +110,8 @@ module _ (g s : List TypeNode) (lg : Lawful g) (ls : Lawful s) (once : Once s) (
   step_other_base : (c : ℕ) → shape_of (get_or g k zero_node) ≡ Some (Base c) → shape_of (get_or s place zero_node) ≢ Some (Base c) → Clash g s ns vs (k + 1)
   step_other_base c says differ =
       λ σ p.
-      (let has = meant_some s ls.each place place_inside _ refl in
-      let is : base c ≡ type_of s has.0 = sym (ap (apply σ) (meant g lg.each k here (Base c) says)) ∙ asked σ p ∙ meant s ls.each place place_inside has.0 has.1 in
+      (let has = meant_some s m.special_lawful.each place place_inside _ refl in
+      let is : base c ≡ type_of s has.0 = sym (ap (apply σ) (meant g m.general_lawful.each k here (Base c) says)) ∙ asked σ p ∙ meant s m.special_lawful.each place place_inside has.0 has.1 in
       other_base c s has.0 is (λ same. differ (has.1 ∙ ap Some same)))
 
   pub step_one_base : (c : ℕ) → shape_of (get_or g k zero_node) ≡ Some (Base c) → (r : Bool) → (r ≡ true → shape_of (get_or s place zero_node) ≡ Some (Base c)) → (r ≡ false → shape_of (get_or s place zero_node) ≢ Some (Base c)) → Stepped g s ns ns vs vs k r
@@ -108,24 +120,24 @@ module _ (g s : List TypeNode) (lg : Lawful g) (ls : Lawful s) (once : Once s) (
 
   module _ (gl gr : ℕ) (says : shape_of (get_or g k zero_node) ≡ Some (Arrow gl gr)) where
     asked_arrow : type_at g k ≡ branch 2 (type_at g gl) (type_at g gr)
-    asked_arrow = meant g lg.each k here (Arrow gl gr) says
+    asked_arrow = meant g m.general_lawful.each k here (Arrow gl gr) says
 
     pub asked_lower : (gl < k) × (gr < k)
-    asked_lower = lower g lg.each k here gl gr says
+    asked_lower = lower g m.general_lawful.each k here gl gr says
 
     pub step_no_arrow : ((sl sr : ℕ) → shape_of (get_or s place zero_node) ≢ Some (Arrow sl sr)) → Clash g s ns vs (k + 1)
     step_no_arrow none =
         λ σ p.
-        (let has = meant_some s ls.each place place_inside _ refl in
-        let is : branch 2 (apply σ (type_at g gl)) (apply σ (type_at g gr)) ≡ type_of s has.0 = sym (ap (apply σ) asked_arrow) ∙ asked σ p ∙ meant s ls.each place place_inside has.0 has.1 in
+        (let has = meant_some s m.special_lawful.each place place_inside _ refl in
+        let is : branch 2 (apply σ (type_at g gl)) (apply σ (type_at g gr)) ≡ type_of s has.0 = sym (ap (apply σ) asked_arrow) ∙ asked σ p ∙ meant s m.special_lawful.each place place_inside has.0 has.1 in
         no_arrow s has.0 _ _ is (λ a b same. none a b (has.1 ∙ ap Some same)))
 
     module _ (sl sr : ℕ) (has : shape_of (get_or s place zero_node) ≡ Some (Arrow sl sr)) where
       has_arrow : type_at s place ≡ branch 2 (type_at s sl) (type_at s sr)
-      has_arrow = meant s ls.each place place_inside (Arrow sl sr) has
+      has_arrow = meant s m.special_lawful.each place place_inside (Arrow sl sr) has
 
       has_inside : (sl < length s) × (sr < length s)
-      has_inside = let w = lower s ls.each place place_inside sl sr has in let h = place_inside in (omega (arith, w.0), omega (arith, w.1))
+      has_inside = let w = lower s m.special_lawful.each place place_inside sl sr has in let h = place_inside in (omega (arith, w.0), omega (arith, w.1))
 
       parts_asked : (σ : ℕ → Ty) → Pending g s ns vs (k + 1) σ → branch 2 (apply σ (type_at g gl)) (apply σ (type_at g gr)) ≡ branch 2 (type_at s sl) (type_at s sr)
       parts_asked σ p = sym (ap (apply σ) asked_arrow) ∙ asked σ p ∙ has_arrow
