@@ -70,9 +70,7 @@ fn is_of_list<S: Source>(source: &S, k: u16, types: &[TypeNode], place: u16) -> 
     if n == 0 {
         return false;
     }
-    let mut nodes = [0u16; MOST_NODES];
-    let mut variables = [0u16; MOST_NODES];
-    fits(&general[0..n], types, place, &mut nodes, &mut variables)
+    fits(&general[0..n], types, place)
 }
 
 // Whether the node `i` has its typing step.

@@ -1,6 +1,6 @@
 -- One more node is brought into the merged list.
-use Rattle.std.proofs.Common.{◌≡◌, ℕ, ◌+◌, ◌<◌, ◌≤◌, ltb, List, length, get_or, set, sym, ap, ◌∙◌, subst, ap₂, inl, inr, arith}
-use Rattle.std.proofs.lemmas.List.{get_or-set_same, get_or-set_other}
+use Rattle.std.proofs.Common.{◌≡◌, ℕ, ◌+◌, ◌<◌, ◌≤◌, ltb, List, [], ◌∷◌, ◌++◌, length, get_or, sym, ap, ◌∙◌, subst, ap₂, inl, inr, arith}
+use Rattle.std.proofs.lemmas.List.{get_or_push, get_or_append_left, length_push}
 use Rattle.std.proofs.lemmas.Bool.{cases_eq, cases_lt, lt-ltb, le-ltb, cond-true, cond-false}
 use Rattle.types.specs.declared.TypeNode.{TypeNode}
 use Rattle.types.specs.Types.{branch}
@@ -69,22 +69,31 @@ module _ (l : List TypeNode) (law : Lawful l) (m : List TypeNode) (places : List
               ∙ sym (at_branch l law.each n here two))
         ]
 
-    pub merged_more : n < length places → Merged l m' (set places n at) (n + 1)
-    merged_more room =
+    -- with its place noted last
+    abbrev noted : List ℕ
+    noted = places ++ (at ∷ [])
+
+    pub merged_more : Merged l m' noted (n + 1)
+    merged_more =
+        let size = was.noted in
+        let last-is : get_or noted n 0 ≡ at = get_or_push places at 0 n size in
+        let old-is : (p : ℕ) → p < n → get_or noted p 0 ≡ get_or places p 0 = λ p h. get_or_append_left places (at ∷ []) 0 p (omega (arith, size)) in
         record {
           few = omega (arith, grown.few, was.few);
+          noted = length_push places at ∙ ap (λ (i : ℕ). i + 1) size;
           each = grown.each;
           once = grown.once;
           inside = λ p h.
               elim (cases_eq p n) [
-                | inl last ↦ subst (λ (i : ℕ). i < length m') (sym (ap (λ (i : ℕ). get_or (set places n at) i 0) last ∙ get_or-set_same places n at 0 room)) kept.inside
+                | inl last ↦ subst (λ (i : ℕ). i < length m') (sym (ap (λ (i : ℕ). get_or noted i 0) last ∙ last-is)) kept.inside
                 | inr other ↦
-                    (let old = was.inside p (omega arith) in
-                    subst (λ (i : ℕ). i < length m') (sym (get_or-set_other places n p at 0 other)) (omega (arith, old, grown.longer)))
+                    (let below : p < n = omega arith in
+                    let old = was.inside p below in
+                    subst (λ (i : ℕ). i < length m') (sym (old-is p below)) (omega (arith, old, grown.longer)))
               ];
           same = λ p h.
               elim (cases_eq p n) [
-                | inl last ↦ ap (type_at m') (ap (λ (i : ℕ). get_or (set places n at) i 0) last ∙ get_or-set_same places n at 0 room) ∙ new_type ∙ ap (type_at l) (sym last)
-                | inr other ↦ ap (type_at m') (get_or-set_other places n p at 0 other) ∙ still p (omega arith)
+                | inl last ↦ ap (type_at m') (ap (λ (i : ℕ). get_or noted i 0) last ∙ last-is) ∙ new_type ∙ ap (type_at l) (sym last)
+                | inr other ↦ (let below : p < n = omega arith in ap (type_at m') (old-is p below) ∙ still p below)
               ];
         }

@@ -1,4 +1,5 @@
 pub mod Places
+pub mod Shapes
 pub mod Tables
 pub mod Asking
 pub mod Walk

@@ -14,9 +14,10 @@ pub record Keeps (old new : List TypeNode) (n : TypeNode) (place : ℕ) : Type 0
   pub there : get_or new place zero_node ≡ n
   pub grown : (new ≡ old) ⊎ ((new ≡ old ++ (n ∷ [])) × Absent old n)
 
--- the first n places of a list have places with the same types in a merged list without equal records
+-- the first n places of a list have places with the same types in a merged list without equal records, noted in turn
 pub record Merged (list merged : List TypeNode) (places : List ℕ) (n : ℕ) : Type 0 where
   pub few : length merged ≤ n
+  pub noted : length places ≡ n
   pub each : (p : ℕ) → p < length merged → LawfulNode p (slice_index_or merged p zero_node)
   pub once : Once merged
   pub inside : (p : ℕ) → p < n → slice_index places p < length merged

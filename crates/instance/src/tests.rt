@@ -4,30 +4,6 @@ ghost use Rattle.std.specs.Prelude.{◌≤◌, length};
 use super::*;
 use std::process::Abort;
 
-fn variable(number: u16) -> TypeNode {
-    TypeNode {
-        kind: VARIABLE,
-        left: number,
-        right: 0,
-    }
-}
-
-fn base(code: u16) -> TypeNode {
-    TypeNode {
-        kind: BASE,
-        left: code,
-        right: 0,
-    }
-}
-
-fn arrow(left: u16, right: u16) -> TypeNode {
-    TypeNode {
-        kind: ARROW,
-        left,
-        right,
-    }
-}
-
 fn instance(rt: &impl Abort, general: &[TypeNode], special: &[TypeNode]) {
     assert_eq!(rt; is_instance(general, special), Ok(true));
 }
@@ -44,9 +20,7 @@ fn instance_at(general: &[TypeNode], special: &[TypeNode], place: u16) -> Option
     if place as usize >= special.len() {
         return None;
     }
-    let mut nodes = [7u16; MOST_NODES];
-    let mut variables = [7u16; MOST_NODES];
-    Some(fits(general, special, place, &mut nodes, &mut variables))
+    Some(fits(general, special, place))
 }
 
 // Arrows from the node before to itself, from the second node on.
@@ -54,85 +28,161 @@ fn double(list: &mut [TypeNode])
     requires { length list.old ≤ 4096 }
 {
     for place in 1..list.len() {
-        list[place] = arrow(place as u16 - 1, place as u16 - 1);
+        list[place] = TypeNode::arrow(place as u16 - 1, place as u16 - 1);
     }
 }
 
 #[test]
 fn leaves(rt: HostRuntime) {
-    instance(&rt, &[variable(0)], &[base(3)]);
-    instance(&rt, &[variable(0)], &[variable(7)]);
-    instance(&rt, &[variable(4095)], &[variable(0), arrow(0, 0)]);
-    instance(&rt, &[base(3)], &[base(3)]);
-    other(&rt, &[base(3)], &[base(4)]);
-    other(&rt, &[base(0)], &[variable(0)]);
-    other(&rt, &[base(1)], &[variable(0), arrow(0, 0)]);
-    other(&rt, &[variable(0), arrow(0, 0)], &[base(1)]);
-    other(&rt, &[variable(0), arrow(0, 0)], &[variable(0)]);
+    instance(&rt, &[TypeNode::variable(0)], &[TypeNode::base(3)]);
+    instance(&rt, &[TypeNode::variable(0)], &[TypeNode::variable(7)]);
+    instance(
+        &rt,
+        &[TypeNode::variable(4095)],
+        &[TypeNode::variable(0), TypeNode::arrow(0, 0)],
+    );
+    instance(&rt, &[TypeNode::base(3)], &[TypeNode::base(3)]);
+    other(&rt, &[TypeNode::base(3)], &[TypeNode::base(4)]);
+    other(&rt, &[TypeNode::base(0)], &[TypeNode::variable(0)]);
+    other(
+        &rt,
+        &[TypeNode::base(1)],
+        &[TypeNode::variable(0), TypeNode::arrow(0, 0)],
+    );
+    other(
+        &rt,
+        &[TypeNode::variable(0), TypeNode::arrow(0, 0)],
+        &[TypeNode::base(1)],
+    );
+    other(
+        &rt,
+        &[TypeNode::variable(0), TypeNode::arrow(0, 0)],
+        &[TypeNode::variable(0)],
+    );
 }
 
 #[test]
 fn arrows(rt: HostRuntime) {
-    let same = [variable(0), arrow(0, 0)];
-    let two = [variable(0), variable(1), arrow(0, 1)];
+    let same = [TypeNode::variable(0), TypeNode::arrow(0, 0)];
+    let two = [
+        TypeNode::variable(0),
+        TypeNode::variable(1),
+        TypeNode::arrow(0, 1),
+    ];
     instance(&rt, &two, &same);
     other(&rt, &same, &two);
-    instance(&rt, &two, &[variable(1), variable(0), arrow(0, 1)]);
     instance(
         &rt,
-        &[base(0), base(1), arrow(0, 1)],
-        &[base(1), base(0), arrow(1, 0)],
-    );
-    other(
-        &rt,
-        &[base(0), base(1), arrow(0, 1)],
-        &[base(0), base(2), arrow(0, 1)],
-    );
-    other(
-        &rt,
-        &[base(0), base(1), arrow(0, 1)],
-        &[base(2), base(1), arrow(0, 1)],
+        &two,
+        &[
+            TypeNode::variable(1),
+            TypeNode::variable(0),
+            TypeNode::arrow(0, 1),
+        ],
     );
     instance(
         &rt,
-        &[variable(0), variable(1), arrow(0, 1), arrow(0, 2)],
-        &[base(0), base(1), arrow(0, 1), arrow(0, 2)],
+        &[TypeNode::base(0), TypeNode::base(1), TypeNode::arrow(0, 1)],
+        &[TypeNode::base(1), TypeNode::base(0), TypeNode::arrow(1, 0)],
     );
     other(
         &rt,
-        &[variable(0), variable(1), arrow(0, 1), arrow(0, 2)],
-        &[base(0), base(1), arrow(0, 1), arrow(1, 2)],
+        &[TypeNode::base(0), TypeNode::base(1), TypeNode::arrow(0, 1)],
+        &[TypeNode::base(0), TypeNode::base(2), TypeNode::arrow(0, 1)],
+    );
+    other(
+        &rt,
+        &[TypeNode::base(0), TypeNode::base(1), TypeNode::arrow(0, 1)],
+        &[TypeNode::base(2), TypeNode::base(1), TypeNode::arrow(0, 1)],
+    );
+    instance(
+        &rt,
+        &[
+            TypeNode::variable(0),
+            TypeNode::variable(1),
+            TypeNode::arrow(0, 1),
+            TypeNode::arrow(0, 2),
+        ],
+        &[
+            TypeNode::base(0),
+            TypeNode::base(1),
+            TypeNode::arrow(0, 1),
+            TypeNode::arrow(0, 2),
+        ],
+    );
+    other(
+        &rt,
+        &[
+            TypeNode::variable(0),
+            TypeNode::variable(1),
+            TypeNode::arrow(0, 1),
+            TypeNode::arrow(0, 2),
+        ],
+        &[
+            TypeNode::base(0),
+            TypeNode::base(1),
+            TypeNode::arrow(0, 1),
+            TypeNode::arrow(1, 2),
+        ],
     );
 }
 
 #[test]
 fn lists_of_any_form(rt: HostRuntime) {
     let twice = [
-        base(0),
-        base(1),
-        arrow(0, 1),
-        base(0),
-        base(1),
-        arrow(3, 4),
-        arrow(2, 5),
+        TypeNode::base(0),
+        TypeNode::base(1),
+        TypeNode::arrow(0, 1),
+        TypeNode::base(0),
+        TypeNode::base(1),
+        TypeNode::arrow(3, 4),
+        TypeNode::arrow(2, 5),
     ];
-    instance(&rt, &[variable(0), arrow(0, 0)], &twice);
-    instance(&rt, &[variable(0), variable(0), arrow(0, 1)], &twice);
+    instance(&rt, &[TypeNode::variable(0), TypeNode::arrow(0, 0)], &twice);
+    instance(
+        &rt,
+        &[
+            TypeNode::variable(0),
+            TypeNode::variable(0),
+            TypeNode::arrow(0, 1),
+        ],
+        &twice,
+    );
     instance(&rt, &twice, &twice);
     other(
         &rt,
-        &[variable(0), variable(0), arrow(0, 1)],
-        &[base(0), base(1), arrow(0, 1)],
+        &[
+            TypeNode::variable(0),
+            TypeNode::variable(0),
+            TypeNode::arrow(0, 1),
+        ],
+        &[TypeNode::base(0), TypeNode::base(1), TypeNode::arrow(0, 1)],
     );
     instance(
         &rt,
-        &[base(5), variable(9), variable(3), arrow(1, 2)],
-        &[variable(3), base(1), base(0), arrow(1, 2)],
+        &[
+            TypeNode::base(5),
+            TypeNode::variable(9),
+            TypeNode::variable(3),
+            TypeNode::arrow(1, 2),
+        ],
+        &[
+            TypeNode::variable(3),
+            TypeNode::base(1),
+            TypeNode::base(0),
+            TypeNode::arrow(1, 2),
+        ],
     );
     instance(
         &rt,
-        &[variable(0), base(5), arrow(0, 1), variable(0), arrow(0, 3)],
-        &[base(2), base(3), arrow(0, 0)],
+        &[
+            TypeNode::variable(0),
+            TypeNode::base(5),
+            TypeNode::arrow(0, 1),
+            TypeNode::variable(0),
+            TypeNode::arrow(0, 3),
+        ],
+        &[TypeNode::base(2), TypeNode::base(3), TypeNode::arrow(0, 0)],
     );
 }
 
@@ -140,25 +190,30 @@ fn lists_of_any_form(rt: HostRuntime) {
 fn refusals(rt: HostRuntime) {
     assert_eq!(rt; is_instance(&[], &[]), Err(InstanceFault::UnlawfulGeneral));
     assert_eq!(rt;
-        is_instance(&[arrow(0, 0)], &[variable(0)]),
+        is_instance(&[TypeNode::arrow(0, 0)], &[TypeNode::variable(0)]),
         Err(InstanceFault::UnlawfulGeneral)
     );
     assert_eq!(rt;
-        is_instance(&[variable(0)], &[]),
+        is_instance(&[TypeNode::variable(0)], &[]),
         Err(InstanceFault::UnlawfulSpecial)
     );
     assert_eq!(rt;
-        is_instance(&[variable(0)], &[base(6)]),
+        is_instance(&[TypeNode::variable(0)], &[TypeNode::base(6)]),
         Err(InstanceFault::UnlawfulSpecial)
     );
 }
 
 #[test]
 fn places(rt: HostRuntime) {
-    let list = [base(0), base(1), arrow(0, 1), arrow(2, 2)];
-    let same = [variable(5), arrow(0, 0)];
+    let list = [
+        TypeNode::base(0),
+        TypeNode::base(1),
+        TypeNode::arrow(0, 1),
+        TypeNode::arrow(2, 2),
+    ];
+    let same = [TypeNode::variable(5), TypeNode::arrow(0, 0)];
     assert!(rt; is_once(&list));
-    assert!(rt; !is_once(&[base(0), base(1), base(0)]));
+    assert!(rt; !is_once(&[TypeNode::base(0), TypeNode::base(1), TypeNode::base(0)]));
     assert_eq!(rt; instance_at(&same, &list, 3), Some(true));
     assert_eq!(rt; instance_at(&same, &list, 2), Some(false));
     assert_eq!(rt; instance_at(&same, &list, 0), Some(false));
@@ -167,8 +222,16 @@ fn places(rt: HostRuntime) {
 
 #[test]
 fn longest(rt: HostRuntime) {
-    let mut doubled = [variable(0); 4096];
+    let mut doubled = [TypeNode::variable(0); 4096];
     double(&mut doubled);
     instance(&rt, &doubled, &doubled);
-    other(&rt, &doubled, &[variable(0), variable(1), arrow(0, 1)]);
+    other(
+        &rt,
+        &doubled,
+        &[
+            TypeNode::variable(0),
+            TypeNode::variable(1),
+            TypeNode::arrow(0, 1),
+        ],
+    );
 }

@@ -4,23 +4,7 @@ ghost use Rattle.std.specs.Prelude.{◌≤◌, length};
 use super::*;
 use refusal::Layer;
 use std::process::Abort;
-use types::{ARROW, VARIABLE, is_lawful};
-
-fn variable(number: u16) -> TypeNode {
-    TypeNode {
-        kind: VARIABLE,
-        left: number,
-        right: 0,
-    }
-}
-
-fn arrow(left: u16, right: u16) -> TypeNode {
-    TypeNode {
-        kind: ARROW,
-        left,
-        right,
-    }
-}
+use types::is_lawful;
 
 // The first `n` bytes are as expected, and the others untouched.
 fn is_line(rt: &impl Abort, out: &[u8], n: usize, expected: &[u8]) {
@@ -48,11 +32,20 @@ fn refuses(rt: &impl Abort, number: u16, place: usize, expected: &[u8]) {
 
 #[test]
 fn filed_formulas(rt: HostRuntime) {
-    files(&rt, 0, &[variable(0), arrow(0, 0)], b"#0 : a -> a\n");
+    files(
+        &rt,
+        0,
+        &[TypeNode::variable(0), TypeNode::arrow(0, 0)],
+        b"#0 : a -> a\n",
+    );
     files(
         &rt,
         127,
-        &[variable(0), arrow(0, 0), arrow(1, 0)],
+        &[
+            TypeNode::variable(0),
+            TypeNode::arrow(0, 0),
+            TypeNode::arrow(1, 0),
+        ],
         b"#127 : (a -> a) -> a\n",
     );
 }
@@ -62,13 +55,13 @@ fn double(list: &mut [TypeNode])
     requires { length list.old ≤ 4096 }
 {
     for place in 1..list.len() {
-        list[place] = arrow(place as u16 - 1, place as u16 - 1);
+        list[place] = TypeNode::arrow(place as u16 - 1, place as u16 - 1);
     }
 }
 
 #[test]
 fn a_long_type(rt: HostRuntime) {
-    let mut list = [variable(0); 13];
+    let mut list = [TypeNode::variable(0); 13];
     double(&mut list);
     files(&rt, 12, &list, b"#12 : too long\n");
 }

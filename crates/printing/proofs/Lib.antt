@@ -1,3 +1,1 @@
-pub mod Spelling
-pub mod Over
-pub mod Lengths
+mod Arrows

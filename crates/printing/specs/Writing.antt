@@ -1,27 +1,36 @@
--- Bytes written over a memory, and what a request to print leaves and answers.
-use Rattle.std.specs.Prelude.{◌≡◌, ℕ, ◌+◌, ◌<◌, ◌≤◌, min, List, ◌++◌, length, take, drop, Ok, Err, Result, slice_index}
+-- The text of a type as it is written, and what a request to print leaves and answers.
+use Rattle.std.specs.Prelude.{◌≡◌, ℕ, ◌+◌, ◌<◌, ◌≤◌, List, ◌++◌, length, drop, Ok, Err, Result, codes, ◌==◌, slice_index_or}
 use Rattle.types.specs.declared.TypeNode.{TypeNode}
-use Rattle.types.specs.Lists.{Lawful, type_at, meaning}
-use Rattle.printing.specs.Text.{text}
+use Rattle.types.specs.Lists.{zero_node, Lawful, type_at, meaning}
+use Rattle.printing.specs.Text.{left_part, text}
+use Rattle.arrayvec.specs.ArrayString.{ArrayString}
 use Rattle.printing.specs.declared.ShowFault.{ShowFault}
 use Rattle.printing.specs.declared.ShowFault.TheVariants.{Unlawful, TooLong}
 
--- the memory with the bytes written over it from a place on
-abbrev pub over : List ℕ → ℕ → List ℕ → List ℕ
-over memory at bytes = take at memory ++ (bytes ++ drop (at + length bytes) memory)
+-- the bytes were put behind a text, unless there was no room for them in 4,096
+abbrev pub Added : List ℕ → List ℕ → List ℕ → Result Unit ShowFault → Type 0
+Added before bytes after (Ok done) = (after ≡ before ++ bytes) × (length before + length bytes ≤ 4096)
+Added before bytes after (Err fault) = (fault ≡ TooLong) × (4096 < length before + length bytes)
 
--- the bytes were written from a place on, and end where the answer says
-pub record Wrote (before after : List ℕ) (at : ℕ) (bytes : List ℕ) (end : ℕ) : Type 0 where
-  pub leaves : after ≡ over before at bytes
-  pub stop : end ≡ at + length bytes
+-- the text of the arrow between two places
+abbrev pub arrow_text : List TypeNode → ℕ → ℕ → List ℕ
+arrow_text list left right = left_part ((slice_index_or list left zero_node).kind == 2) (text (type_at list left)) ++ (codes " -> " ++ text (type_at list right))
 
--- the length of the text at a place, and 4,097 for each that is longer
-abbrev pub capped : List TypeNode → ℕ → ℕ
-capped list place = min (length (text (type_at list place))) 4097
+-- the list is lawful, and this is the text of its type
+pub record Text (list : List TypeNode) (bytes : List ℕ) : Type 0 where
+  pub lawful : Lawful list
+  pub is : bytes ≡ text (meaning list)
+  pub short : length bytes ≤ 4096
 
--- the lengths at the first places are known
-abbrev pub Measured : List TypeNode → List ℕ → ℕ → Type 0
-Measured list lengths n = (p : ℕ) → p < n → slice_index lengths p ≡ capped list p
+-- the list is lawful, and the text of its type has more than 4,096 bytes
+pub record TextTooLong (list : List TypeNode) : Type 0 where
+  pub lawful : Lawful list
+  pub long : 4096 < length (text (meaning list))
+
+abbrev pub Spelled : List TypeNode → Result ArrayString ShowFault → Type 0
+Spelled list (Ok t) = Text list t.bytes
+Spelled list (Err Unlawful) = Lawful list → ⊥
+Spelled list (Err TooLong) = TextTooLong list
 
 -- the text may be printed in so much room: at most 4,096 bytes, and at most the room
 pub record Prints (bytes : List ℕ) (room : ℕ) : Type 0 where

@@ -5,30 +5,6 @@ use super::*;
 use std::process::Abort;
 use std::test::Fail;
 
-fn variable(number: u16) -> TypeNode {
-    TypeNode {
-        kind: VARIABLE,
-        left: number,
-        right: 0,
-    }
-}
-
-fn base(code: u16) -> TypeNode {
-    TypeNode {
-        kind: BASE,
-        left: code,
-        right: 0,
-    }
-}
-
-fn arrow(left: u16, right: u16) -> TypeNode {
-    TypeNode {
-        kind: ARROW,
-        left,
-        right,
-    }
-}
-
 // The list prints as expected, and no byte beyond is touched.
 fn prints(rt: &impl Abort, list: &[TypeNode], expected: &[u8]) -> Result<(), Fail> {
     let mut out = [b'#'; 40];
@@ -47,7 +23,7 @@ fn chain(list: &mut [TypeNode])
     requires { length list.old ≤ 4096 }
 {
     for place in 2..list.len() {
-        list[place] = arrow(0, place as u16 - 1);
+        list[place] = TypeNode::arrow(0, place as u16 - 1);
     }
 }
 
@@ -56,50 +32,60 @@ fn double(list: &mut [TypeNode])
     requires { length list.old ≤ 4096 }
 {
     for place in 1..list.len() {
-        list[place] = arrow(place as u16 - 1, place as u16 - 1);
+        list[place] = TypeNode::arrow(place as u16 - 1, place as u16 - 1);
     }
 }
 
 #[test]
 fn leaves(rt: HostRuntime) -> Result<(), Fail> {
-    prints(&rt, &[base(0)], b"hours")?;
-    prints(&rt, &[base(1)], b"rate")?;
-    prints(&rt, &[base(2)], b"gross")?;
-    prints(&rt, &[base(3)], b"net")?;
-    prints(&rt, &[base(4)], b"paid")?;
-    prints(&rt, &[base(5)], b"flag")?;
-    prints(&rt, &[variable(0)], b"a")?;
-    prints(&rt, &[variable(25)], b"z")?;
-    prints(&rt, &[variable(26)], b"a1")?;
-    prints(&rt, &[variable(51)], b"z1")?;
-    prints(&rt, &[variable(52)], b"a2")?;
-    prints(&rt, &[variable(260)], b"a10")?;
-    prints(&rt, &[variable(2600)], b"a100")?;
-    prints(&rt, &[variable(4095)], b"n157")
+    prints(&rt, &[TypeNode::base(0)], b"hours")?;
+    prints(&rt, &[TypeNode::base(1)], b"rate")?;
+    prints(&rt, &[TypeNode::base(2)], b"gross")?;
+    prints(&rt, &[TypeNode::base(3)], b"net")?;
+    prints(&rt, &[TypeNode::base(4)], b"paid")?;
+    prints(&rt, &[TypeNode::base(5)], b"flag")?;
+    prints(&rt, &[TypeNode::variable(0)], b"a")?;
+    prints(&rt, &[TypeNode::variable(25)], b"z")?;
+    prints(&rt, &[TypeNode::variable(26)], b"a1")?;
+    prints(&rt, &[TypeNode::variable(51)], b"z1")?;
+    prints(&rt, &[TypeNode::variable(52)], b"a2")?;
+    prints(&rt, &[TypeNode::variable(260)], b"a10")?;
+    prints(&rt, &[TypeNode::variable(2600)], b"a100")?;
+    prints(&rt, &[TypeNode::variable(4095)], b"n157")
 }
 
 #[test]
 fn arrows(rt: HostRuntime) -> Result<(), Fail> {
     let list = [
-        variable(0),
-        variable(1),
-        arrow(0, 1),
-        variable(2),
-        arrow(3, 0),
-        arrow(3, 1),
-        arrow(4, 5),
-        arrow(2, 6),
+        TypeNode::variable(0),
+        TypeNode::variable(1),
+        TypeNode::arrow(0, 1),
+        TypeNode::variable(2),
+        TypeNode::arrow(3, 0),
+        TypeNode::arrow(3, 1),
+        TypeNode::arrow(4, 5),
+        TypeNode::arrow(2, 6),
     ];
     prints(&rt, &list, b"(a -> b) -> (c -> a) -> c -> b")?;
     prints(&rt, &list[0..3], b"a -> b")?;
     prints(
         &rt,
-        &[base(0), base(2), arrow(0, 1), arrow(2, 1)],
+        &[
+            TypeNode::base(0),
+            TypeNode::base(2),
+            TypeNode::arrow(0, 1),
+            TypeNode::arrow(2, 1),
+        ],
         b"(hours -> gross) -> gross",
     )?;
     prints(
         &rt,
-        &[base(0), base(2), arrow(0, 1), arrow(0, 2)],
+        &[
+            TypeNode::base(0),
+            TypeNode::base(2),
+            TypeNode::arrow(0, 1),
+            TypeNode::arrow(0, 2),
+        ],
         b"hours -> hours -> gross",
     )
 }
@@ -108,25 +94,37 @@ fn arrows(rt: HostRuntime) -> Result<(), Fail> {
 fn refusals(rt: HostRuntime) {
     let mut out = [b'#'; 6];
     assert_eq!(rt; show(&[], &mut out), Err(ShowFault::Unlawful));
-    assert_eq!(rt; show(&[arrow(0, 0)], &mut out), Err(ShowFault::Unlawful));
-    assert_eq!(rt; show(&[base(6)], &mut out), Err(ShowFault::Unlawful));
     assert_eq!(rt;
-        show(&[variable(0), arrow(0, 0)], &mut out[0..5]),
+        show(&[TypeNode::arrow(0, 0)], &mut out),
+        Err(ShowFault::Unlawful)
+    );
+    assert_eq!(rt;
+        show(&[TypeNode::base(6)], &mut out),
+        Err(ShowFault::Unlawful)
+    );
+    assert_eq!(rt;
+        show(
+            &[TypeNode::variable(0), TypeNode::arrow(0, 0)],
+            &mut out[0..5]
+        ),
         Err(ShowFault::TooLong)
     );
     assert!(rt; out == *b"######");
-    assert_eq!(rt; show(&[variable(0), arrow(0, 0)], &mut out), Ok(6));
+    assert_eq!(rt;
+        show(&[TypeNode::variable(0), TypeNode::arrow(0, 0)], &mut out),
+        Ok(6)
+    );
     assert!(rt; out == *b"a -> a");
 }
 
 #[test]
 fn longest(rt: HostRuntime) {
     let mut out = [b'#'; 4200];
-    let mut list = [base(0); 820];
-    list[0] = variable(0);
+    let mut list = [TypeNode::base(0); 820];
+    list[0] = TypeNode::variable(0);
     chain(&mut list);
     assert_eq!(rt; show(&list, &mut out), Ok(4095));
-    let mut list = [variable(0); 821];
+    let mut list = [TypeNode::variable(0); 821];
     chain(&mut list);
     assert_eq!(rt; show(&list, &mut out), Ok(4096));
     let mut short = [b'#'; 4095];
@@ -136,11 +134,11 @@ fn longest(rt: HostRuntime) {
 #[test]
 fn too_long(rt: HostRuntime) {
     let mut out = [b'#'; 4200];
-    let mut list = [variable(26); 821];
-    list[0] = variable(0);
+    let mut list = [TypeNode::variable(26); 821];
+    list[0] = TypeNode::variable(0);
     chain(&mut list);
     assert_eq!(rt; show(&list, &mut out), Err(ShowFault::TooLong));
-    let mut list = [variable(0); 4096];
+    let mut list = [TypeNode::variable(0); 4096];
     double(&mut list);
     assert_eq!(rt; show(&list, &mut out), Err(ShowFault::TooLong));
 }

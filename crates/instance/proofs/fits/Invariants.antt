@@ -1,8 +1,11 @@
+use Rattle.std.proofs.Common.{◌≡◌}
 use Rattle.instance.proofs.Walk.{Walked}
 use Rattle.instance.proofs.fits.Given as goal
 
 abbrev pub invariant-loop-at : goal.invariant-loop-at
-invariant-loop-at l = Walked l.general l.special l.place l.nodes l.variables l.at
-
-abbrev pub decreases-loop-at : goal.decreases-loop-at
-decreases-loop-at l = l.at
+invariant-loop-at l =
+    record {
+      general : l.matching.general.now ≡ l.general;
+      special : l.matching.special.now ≡ l.special;
+      walked : Walked l.general l.special l.place l.matching.nodes l.matching.variables l.at;
+    }
