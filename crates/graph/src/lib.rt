@@ -1,8 +1,9 @@
 // Type graphs in a lent memory of type nodes: classes of nodes that have the same type, and their unification.
 #![tactic(auto)]
 
-ghost use Rattle.std.specs.Prelude.{◌≡◌, ℕ, ◌<◌, map, length, slice_index_or};
+ghost use Rattle.std.specs.Prelude.{◌≡◌, ℕ, ◌+◌, ◌<◌, ◌≤◌, map, length, slice_index_or, slice_set};
 ghost use Rattle.graph.specs.Graph.{view, record_of, Solves, Sound, alive, Kept, Always, Still};
+ghost use Rattle.graph.specs.Memory.{nodes, InPlace};
 ghost use Rattle.graph.specs.Unifying.{compared, Merged, Unified};
 ghost use Rattle.types.specs.Lists.{zero_node};
 ghost use Rattle.types.specs.Types.{Ty};
@@ -49,16 +50,8 @@ impl From<Node> for TypeNode {
 
     fn from(node: Node) -> TypeNode {
         match node {
-            Node::Var => TypeNode {
-                kind: VARIABLE,
-                left: 0,
-                right: 0,
-            },
-            Node::Base(code) => TypeNode {
-                kind: BASE,
-                left: code,
-                right: 0,
-            },
+            Node::Var => TypeNode::variable(0),
+            Node::Base(code) => TypeNode::base(code),
             Node::Branch(kind, left, right) => TypeNode { kind, left, right },
             Node::Link(next) => TypeNode {
                 kind: LINK,
@@ -185,4 +178,42 @@ pub fn unify(nodes: &mut [TypeNode], a: u16, b: u16) -> Result<(), Clash>
         unify(nodes, r, s)?;
     }
     Ok(())
+}
+
+// A graph in the front of a lent memory, with room for more nodes behind it. What its nodes ask stands in the clauses of
+// what takes it: a ghost field beside a `&mut` gets no proof.
+#[derive(Drop)]
+pub struct Graph<'a> {
+    pub memory: &'a mut [TypeNode],
+    pub used: usize,
+}
+
+impl Graph<'_> {
+    // Adds a record; the answer is its place.
+    pub fn push(&mut self, node: TypeNode) -> u16
+        requires room { self.old.used < length self.old.memory.now }
+        requires small { self.old.used < 65536 }
+        ensures kept { InPlace self.old self.new }
+        ensures place { result ≡ self.old.used }
+        ensures used { self.new.used ≡ self.old.used + 1 }
+        ensures memory { self.new.memory.now ≡ slice_set self.old.memory.now self.old.used node }
+    {
+        let place = self.used;
+        self.memory[place] = node;
+        self.used += 1;
+        place as u16
+    }
+
+    // Gives two nodes one type, as `unify` does.
+    pub fn unify(&mut self, a: u16, b: u16) -> Result<(), Clash>
+        requires fits { self.old.used ≤ length self.old.memory.now }
+        requires sound { Sound (nodes self.old) }
+        requires first { a < self.old.used }
+        requires second { b < self.old.used }
+        ensures kept { InPlace self.old self.new }
+        ensures used { self.new.used ≡ self.old.used }
+        ensures unified { Unified (nodes self.old) (nodes self.new) a b result }
+    {
+        unify(&mut self.memory[..self.used], a, b)
+    }
 }
