@@ -1,7 +1,8 @@
 -- First places of variables, noted in a table.
-use Rattle.std.proofs.Common.{◌≡◌, ℕ, ◌+◌, ◌<◌, ◌≤◌, ◌≢◌, List, length, get_or, set, sym, ap, ◌∙◌, subst, ⊎_elim, arith}
+use Rattle.std.proofs.Common.{◌≡◌, ℕ, ◌+◌, ◌<◌, ◌≤◌, ◌≢◌, Option, Some, None, MatchOption, List, length, get_or, set, sym, ap, ◌∙◌, subst, ⊎_elim, arith}
 use Rattle.std.proofs.lemmas.List.{length-set, get_or-set_same, get_or-set_other}
-use Rattle.std.proofs.lemmas.Bool.{cases_eq, cases_lt}
+use Rattle.std.proofs.lemmas.Bool.{cases_eq}
+use Rattle.std.specs.Option.{unwrap_or}
 use Rattle.types.specs.Lists.{zero_node}
 use Rattle.types.specs.declared.TypeNode.{TypeNode}
 use Rattle.copy.specs.Copies.{IsVariable, First, StandsBelow, Noted}
@@ -31,21 +32,8 @@ module _ (l : List TypeNode) (i : ℕ) (seen : List ℕ) where
     pub noted_past : length seen ≤ a → Noted l (i + 1) seen
     noted_past past = noted_more noted (λ b v h. absurd (omega (arith, only b v)))
 
-    pub noted_again : StandsBelow l i a (get_or seen a 0) → a < length seen → Noted l (i + 1) seen
-    noted_again s h = noted_more noted (λ b v k. subst (λ (c : ℕ). First l c (get_or seen c 0)) (only b v) (noted.each (get_or seen a 0) a s h))
-
-    -- what the table does not have was not there
-    pub first_new : (StandsBelow l i a (get_or seen a 0) → ⊥) → a < length seen → First l a i
-    first_new none h =
-        record {
-          here = is;
-          before = λ j lt v.
-              (let f = noted.each j a record { below = lt; here = v } h in
-              ⊎_elim
-              (λ (k : j < get_or seen a 0). f.before j k v)
-              (λ (k : get_or seen a 0 ≤ j). none record { below = omega arith; here = f.here })
-              (cases_lt j (get_or seen a 0)));
-        }
+    pub noted_again : (p : ℕ) → StandsBelow l i a p → a < length seen → Noted l (i + 1) seen
+    noted_again p s h = noted_more noted (λ b v k. subst (λ (c : ℕ). First l c (get_or seen c 0)) (only b v) (noted.each p a s h))
 
     pub noted_new : First l a i → a < length seen → Noted l (i + 1) (set seen a i)
     noted_new f h =
@@ -60,3 +48,8 @@ module _ (l : List TypeNode) (i : ℕ) (seen : List ℕ) where
               (cases_eq j i))
               (cases_eq b a);
         }
+
+-- what a search of the places below i finds, or i itself
+pub first_found : (l : List TypeNode) (a i : ℕ) (r : Option ℕ) → IsVariable (get_or l i zero_node) a → MatchOption r ((k : ℕ) → 0 ≤ k → k < i → IsVariable (get_or l k zero_node) a → ⊥) (λ j. (0 ≤ j) × (j < i) × IsVariable (get_or l j zero_node) a × ((k : ℕ) → 0 ≤ k → k < j → IsVariable (get_or l k zero_node) a → ⊥)) → First l a (unwrap_or r i)
+first_found l a i None is f = record { here = is; before = λ j h. f j (omega arith) h }
+first_found l a i (Some j) is f = record { here = f.2; before = λ k h. f.3 k (omega arith) h }

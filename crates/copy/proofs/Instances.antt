@@ -7,7 +7,7 @@ use Rattle.types.specs.declared.TypeNode.{TypeNode}
 use Rattle.graph.specs.Graph.{view, graph, Says, Solves, Inside, Sound}
 use Rattle.graph.specs.declared.Node.{Node}
 use Rattle.graph.specs.declared.Node.TheVariants.{Var, Base, Branch, Link}
-use Rattle.graph.proofs.Memory.{graph_length, graph_push}
+use Rattle.graph.proofs.Memory.{graph_push}
 use Rattle.copy.specs.Copies.{IsVariable, First, Fresh}
 use Rattle.copy.specs.Instances.{OfList}
 use Rattle.copy.specs.Told.{Agree, Told}
@@ -120,17 +120,7 @@ module _ (l : List TypeNode) (lawful : Lawful l) where
         onto = λ v τ s d. (let o = p.onto v d.instance.0 s in (o.0, o.1, o.2, ap o.0 ei ∙ o.3 (length l - 1) (omega arith) ∙ d.instance.1));
       }
 
-  -- the same in a memory
-  module _ (ts : List TypeNode) (n : ℕ) (fits : n ≤ length ts) where
-    pub start : Sound (graph ts n) → Partly (graph ts n) (graph ts (n + 0)) 0
-    start sound = let e : n + 0 ≡ n = omega arith in subst (λ (m : ℕ). Partly (graph ts n) (graph ts m) 0) (sym e) (partly_none (graph ts n) sound)
-
-    pub go_on : (us : List TypeNode) (i : ℕ) (x : TypeNode) → i < length l → n + i < length us → Partly (graph ts n) (graph us (n + i)) i → Fresh l n i (view x) → Partly (graph ts n) (graph (set us (n + i) x) (n + (i + 1))) (i + 1)
-    go_on us i x h room p f =
-        let e : n + (i + 1) ≡ n + i + 1 = omega arith in
-        subst (λ (m : ℕ). Partly (graph ts n) (graph (set us (n + i) x) m) (i + 1)) (sym e)
-        (partly_more (graph ts n) (graph us (n + i)) i h p (graph (set us (n + i) x) (n + i + 1)) (view x) (graph_push us (n + i) x room) (subst (λ (m : ℕ). Fresh l m i (view x)) (sym (graph_length ts n fits)) f))
-
-    pub done : (us : List TypeNode) (m : ℕ) → m ≡ length l → Partly (graph ts n) (graph us (n + m)) m → (n + m ≡ n + length l) × Told (graph ts n) (graph us (n + m)) (n + (m - 1)) (λ v τ. OfList l τ)
-    done us m e p =
-        (omega arith, told_copied (graph ts n) (graph us (n + m)) (n + (m - 1)) (subst (Partly (graph ts n) (graph us (n + m))) e p) (omega (arith, graph_length ts n fits)))
+  -- the same in a memory, where a record more is used
+  pub go_on : (ns : List Node) (us vs : List TypeNode) (m k n i : ℕ) (x : TypeNode) → i < length l → m < length us → vs ≡ set us m x → k ≡ m + 1 → n ≡ length ns → Partly ns (graph us m) i → Fresh l n i (view x) → Partly ns (graph vs k) (i + 1)
+  go_on ns us vs m k n i x h room ev ek en p f =
+      partly_more ns (graph us m) i h p (graph vs k) (view x) (ap₂ graph ev ek ∙ graph_push us m x room) (subst (λ (j : ℕ). Fresh l j i (view x)) en f)

@@ -1,5 +1,5 @@
 -- The type at a place of a lawful list, by its node.
-use Rattle.std.proofs.Common.{◌≡◌, ℕ, zero, suc, ◌<◌, ◌≤◌, List, length, get_or, sym, refl, ap, ◌∙◌, subst, ap₂, arith}
+use Rattle.std.proofs.Common.{◌≡◌, ℕ, zero, suc, ◌<◌, ◌≤◌, List, length, get_or, refl, ap, ◌∙◌, ap₂, arith}
 use Rattle.types.specs.Types.{Ty, variable, base, branch}
 use Rattle.types.specs.Lists.{zero_node, Lawful, shape, reading, type_at}
 use Rattle.types.specs.declared.TypeNode.{TypeNode}
@@ -41,14 +41,3 @@ module _ (l : List TypeNode) (lawful : Lawful l) where
       ap (λ (k : ℕ). shape k x.left (reading p l x.left) (reading p l x.right)) e
       ∙ shape_branch k x.left (reading p l x.left) (reading p l x.right) two
       ∙ ap₂ (branch k) (enough p (suc x.left) x.left (omega (arith, low.0)) low.0 (omega arith)) (enough p (suc x.right) x.right (omega (arith, low.1)) low.1 (omega arith))
-
--- a node that is no leaf is a branch of lower places
-pub parts_lower : (l : List TypeNode) (x : TypeNode) (p : ℕ) → Lawful l → p < length l → x ≡ get_or l p zero_node → (x.kind ≡ 0 → ⊥) → (x.kind ≡ 1 → ⊥) → (2 ≤ x.kind) × (x.kind ≤ 2) × (x.left < p) × (x.right < p)
-parts_lower l x p lawful h e nz no1 =
-    let n : (2 ≤ (get_or l p zero_node).kind) × ((get_or l p zero_node).kind ≤ 2) × ((get_or l p zero_node).left < p) × ((get_or l p zero_node).right < p) =
-    (let k = (lawful.each p h).kinds in
-    let kx : (get_or l p zero_node).kind ≡ x.kind = ap (λ (y : TypeNode). y.kind) (sym e) in
-    let two : 2 ≤ (get_or l p zero_node).kind = omega arith in
-    let low = (lawful.each p h).lower two in
-    (two, k, low.0, low.1)) in
-    subst (λ (y : TypeNode). (2 ≤ y.kind) × (y.kind ≤ 2) × (y.left < p) × (y.right < p)) (sym e) n

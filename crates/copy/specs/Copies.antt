@@ -2,10 +2,8 @@
 use Rattle.std.specs.Prelude.{◌≡◌, ℕ, ◌+◌, ◌<◌, ◌≤◌, List, length, get_or, Some, None, Option, slice_index, slice_index_or}
 use Rattle.types.specs.Lists.{zero_node}
 use Rattle.types.specs.declared.TypeNode.{TypeNode}
-use Rattle.graph.specs.Graph.{graph}
 use Rattle.graph.specs.declared.Node.{Node}
 use Rattle.graph.specs.declared.Node.TheVariants.{Var, Base, Branch, Link}
-use Rattle.copy.specs.declared.Made.{Made}
 use Rattle.copy.specs.Instances.{OfList}
 use Rattle.copy.specs.Told.{Told}
 
@@ -36,7 +34,8 @@ Fresh l n p (Base c) = ((get_or l p zero_node).kind ≡ 1) × ((get_or l p zero_
 Fresh l n p (Branch k a b) = (2 ≤ k) × ((get_or l p zero_node).kind ≡ k) × (a ≡ n + (get_or l p zero_node).left) × (b ≡ n + (get_or l p zero_node).right)
 Fresh l n p (Link m) = (j : ℕ) × (m ≡ n + j) × (j < p) × ((get_or l p zero_node).kind ≡ 0) × First l (get_or l p zero_node).left j
 
--- a copy of a list behind the first n records has exactly the instances of the list's type; a list without nodes has no copy
-abbrev pub Copied : List TypeNode → List TypeNode → List TypeNode → ℕ → Option Made → Type 0
-Copied l ts us n (Some m) = (m.used ≡ n + length l) × Told (graph ts n) (graph us m.used) m.node (λ v τ. OfList l τ)
-Copied l ts us n None = length l ≡ 0
+-- ms is ns and behind it a copy of a list, whose root is a node with exactly the instances of the list's type; a list
+-- without nodes has no copy
+abbrev pub Copied : List TypeNode → List Node → List Node → Option ℕ → Type 0
+Copied l ns ms (Some i) = Told ns ms i (λ v τ. OfList l τ)
+Copied l ns ms None = length l ≡ 0

@@ -1,6 +1,7 @@
 -- Records in a lent memory, read as the nodes of a graph.
 use Rattle.std.proofs.Common.{◌≡◌, ℕ, zero, suc, ◌+◌, ◌<◌, ◌≤◌, List, [], ◌∷◌, ◌++◌, map, length, get_or, take, set, sym, refl, ap, ◌∙◌, subst, arith}
-use Rattle.std.proofs.lemmas.List.{length-map, length-take, take_more_set, map-append}
+use Rattle.std.proofs.lemmas.List.{length-map, length-take, take_more_set, map-append, map-set, take_at}
+use Rattle.std.proofs.Math.ListN.{get_or-map}
 use Rattle.types.specs.Types.{Ty}
 use Rattle.types.specs.Lists.{node, zero_node}
 use Rattle.types.specs.declared.TypeNode.{TypeNode}
@@ -38,12 +39,29 @@ skip ts n i next far fits hi hn sound d e =
     subst (λ (zs : List Node). Kept (graph ts n) zs Always Always × Still (graph ts n) zs) (sym (graph_set ts n i (node 255 far 0)))
     (skipped (graph ts n) i next far sound (omega (arith, graph_length ts n fits)) (graph_at ts n i hi ∙ d) (graph_at ts n next hn ∙ e))
 
+-- where all records are in use
+pub node_at : (ts : List TypeNode) (i : ℕ) → get_or (map view ts) i Var ≡ view (get_or ts i zero_node)
+node_at ts i = get_or-map view ts i zero_node
+
+pub same_many : (ts us : List TypeNode) → length us ≡ length ts → length (map view us) ≡ length (map view ts)
+same_many ts us e = omega (arith, length-map ts view, length-map us view)
+
+-- a link that skips one
+pub skipped_link : (ts : List TypeNode) (i next far : ℕ) (x : TypeNode) → i < length ts → next < length ts → Sound (map view ts) → view (get_or ts i zero_node) ≡ Link next → x ≡ get_or ts next zero_node → view x ≡ Link far → Kept (map view ts) (map view (set ts i x)) Always Always × Still (map view ts) (map view (set ts i x))
+skipped_link ts i next far x hi hn sound d q e =
+    subst (λ (zs : List Node). Kept (map view ts) zs Always Always × Still (map view ts) zs) (sym (map-set view ts i x ∙ ap (set (map view ts) i) e))
+    (skipped (map view ts) i next far sound (omega (arith, length-map ts view)) (node_at ts i ∙ d) (node_at ts next ∙ ap view (sym q) ∙ e))
+
 -- a link goes down
-pub goes_down : (ts : List TypeNode) (n i next : ℕ) → n ≤ length ts → i < n → Sound (graph ts n) → view (get_or ts i zero_node) ≡ Link next → next < i
-goes_down ts n i next fits h sound e = inside_at (graph ts n) i (Link next) sound (omega (arith, graph_length ts n fits)) (graph_at ts n i h ∙ e)
+pub link_down : (ts : List TypeNode) (i next : ℕ) → i < length ts → Sound (map view ts) → view (get_or ts i zero_node) ≡ Link next → next < i
+link_down ts i next h sound e = inside_at (map view ts) i (Link next) sound (omega (arith, length-map ts view)) (node_at ts i ∙ e)
 
-pub says_link : (v : ℕ → Ty) (ts : List TypeNode) (n i next : ℕ) → n ≤ length ts → i < n → Solves v (graph ts n) → view (get_or ts i zero_node) ≡ Link next → v i ≡ v next
-says_link v ts n i next fits h s e = says_at v (graph ts n) i (Link next) s (omega (arith, graph_length ts n fits)) (graph_at ts n i h ∙ e)
+pub link_says : (v : ℕ → Ty) (ts : List TypeNode) (i next : ℕ) → i < length ts → Solves v (map view ts) → view (get_or ts i zero_node) ≡ Link next → v i ≡ v next
+link_says v ts i next h s e = says_at v (map view ts) i (Link next) s (omega (arith, length-map ts view)) (node_at ts i ∙ e)
 
-pub still_alive : (ts us : List TypeNode) (n i : ℕ) → i < n → Still (graph ts n) (graph us n) → alive (view (get_or ts i zero_node)) ≡ 1 → alive (view (get_or us i zero_node)) ≡ 1
-still_alive ts us n i h still e = ap alive (sym (graph_at us n i h)) ∙ still i ∙ ap alive (graph_at ts n i h) ∙ e
+pub alive_still : (ts us : List TypeNode) (i : ℕ) → Still (map view ts) (map view us) → alive (view (get_or ts i zero_node)) ≡ 1 → alive (view (get_or us i zero_node)) ≡ 1
+alive_still ts us i still e = ap alive (sym (node_at us i)) ∙ still i ∙ ap alive (node_at ts i) ∙ e
+
+-- where the first n records were lent out
+pub graph_front : (us ts : List TypeNode) (n : ℕ) → length us ≡ n → graph (us ++ ts) n ≡ map view us
+graph_front us ts n e = ap (map view) (take_at us ts n e)

@@ -1,62 +1,48 @@
 -- A merge in the memory is the merge in the graph.
-use Rattle.std.proofs.Common.{◌≡◌, ℕ, ◌<◌, ◌≤◌, ◌≢◌, List, length, get_or, set, sym, refl, ap, ◌∙◌, subst, arith}
-use Rattle.types.specs.Types.{Ty}
+use Rattle.std.proofs.Common.{◌≡◌, ℕ, ◌<◌, ◌≢◌, Option, Some, None, Result, Ok, Err, map, List, length, get_or, set, sym, ap, ap₂, ◌∙◌, subst, arith}
+use Rattle.std.proofs.lemmas.List.{length-map, map-set}
 use Rattle.types.specs.Lists.{node, zero_node}
 use Rattle.types.specs.declared.TypeNode.{TypeNode}
-use Rattle.graph.specs.Graph.{view, graph, Says, Solves, Sound, alive}
-use Rattle.graph.specs.Unifying.{Apart, Merged}
-use Rattle.graph.proofs.Writes.{says_at}
-use Rattle.graph.proofs.Memory.{graph_set, graph_at, graph_length}
-use Rattle.graph.proofs.Merges.{merged_low_var, merged_high_var, merged_bases, merged_branches}
+use Rattle.graph.specs.Graph.{view, Sound, alive}
+use Rattle.graph.specs.Unifying.{Apart, compared, Merged}
+use Rattle.graph.proofs.Memory.{node_at}
+use Rattle.graph.proofs.Merges.{merged_low_var, merged}
 use Rattle.graph.specs.declared.Node.{Node}
-use Rattle.graph.specs.declared.Node.TheVariants.{Var, Base, Branch, Link}
-use Rattle.graph.specs.declared.Step.{Step}
-use Rattle.graph.specs.declared.Step.TheVariants.{Same, Both}
+use Rattle.graph.specs.declared.Node.TheVariants.{Var, Link}
+use Rattle.graph.specs.declared.Clash.{Clash}
+use Rattle.graph.specs.declared.Parts.{Parts}
 
-module _ (ts : List TypeNode) (n low high : ℕ) (fits : n ≤ length ts) (sound : Sound (graph ts n)) (order : low < high) (within : high < n) where
-  long : length (graph ts n) ≡ n
-  long = graph_length ts n fits
+module _ (ts : List TypeNode) (low high : ℕ) (x y : Node) (d : x ≡ view (get_or ts low zero_node)) (e : y ≡ view (get_or ts high zero_node)) (sound : Sound (map view ts)) (order : low < high) (within : high < length ts) (one : alive (view (get_or ts low zero_node)) ≡ 1) (two : alive (view (get_or ts high zero_node)) ≡ 1) where
+  here : high < length (map view ts)
+  here = omega (arith, length-map ts view)
 
-  here : high < length (graph ts n)
-  here = omega (arith, long)
+  at_low : get_or (map view ts) low Var ≡ x
+  at_low = node_at ts low ∙ sym d
 
-  at : (i : ℕ) (x : Node) → i < n → view (get_or ts i zero_node) ≡ x → get_or (graph ts n) i Var ≡ x
-  at i x h e = graph_at ts n i h ∙ e
+  at_high : get_or (map view ts) high Var ≡ y
+  at_high = node_at ts high ∙ sym e
 
-  put : (r : Step) → Merged (graph ts n) (set (graph ts n) high (Link low)) low high r → Merged (graph ts n) (graph (set ts high (node 255 low 0)) n) low high r
-  put r m = subst (λ (zs : List Node). Merged (graph ts n) zs low high r) (sym (graph_set ts n high (node 255 low 0))) m
+  linked : x ≢ Var → Merged (map view ts) (set (map view ts) high (Link low)) low high (compared x y)
+  linked ne = merged (map view ts) low high sound order here x y at_low at_high (ap alive d ∙ one) (ap alive e ∙ two) ne
 
-  pub low_var : view (get_or ts low zero_node) ≡ Var → alive (view (get_or ts high zero_node)) ≡ 1 → Merged (graph ts n) (graph (set (set ts low (get_or ts high zero_node)) high (node 255 low 0)) n) low high Same
-  low_var d one =
-      let x : Node = view (get_or ts high zero_node) in
-      subst (λ (zs : List Node). Merged (graph ts n) zs low high Same) (sym (graph_set (set ts low (get_or ts high zero_node)) n high (node 255 low 0) ∙ ap (λ (zs : List Node). set zs high (Link low)) (graph_set ts n low (get_or ts high zero_node))))
-      (merged_low_var (graph ts n) low high x sound order here (at low Var (omega arith) d) (at high x within refl) one)
+  -- x stays where it says something
+  pub merges_other : (us : List TypeNode) (l : TypeNode) (r : Option Parts) → us ≡ ts → l ≡ node 255 low 0 → Ok r ≡ compared x y → x ≢ Var → Merged (map view ts) (map view (set us high l)) low high (Ok r)
+  merges_other us l r eu el q ne =
+      subst (λ (zs : List Node). Merged (map view ts) zs low high (Ok r)) (sym (map-set view us high l ∙ ap₂ (λ (zs : List TypeNode) (z : TypeNode). set (map view zs) high (view z)) eu el))
+      (subst (Merged (map view ts) (set (map view ts) high (Link low)) low high) (sym q) (linked ne))
 
-  pub high_var : view (get_or ts high zero_node) ≡ Var → Merged (graph ts n) (graph (set ts high (node 255 low 0)) n) low high Same
-  high_var e = put Same (merged_high_var (graph ts n) low high sound order here (at high Var within e))
+  pub merges_var : (us : List TypeNode) (l : TypeNode) (r : Option Parts) → us ≡ set ts low (get_or ts high zero_node) → l ≡ node 255 low 0 → Ok r ≡ compared x y → x ≡ Var → Merged (map view ts) (map view (set us high l)) low high (Ok r)
+  merges_var us l r eu el q v =
+      let n : Ok r ≡ compared Var y = subst (λ (z : Node). Ok r ≡ compared z y) v q in
+      let z : ◌≡◌ {A = Option Parts} None r = cc in
+      let u : map view us ≡ set (map view ts) low y = ap (map view) eu ∙ map-set view ts low (get_or ts high zero_node) ∙ ap (set (map view ts) low) (sym e) in
+      let w : map view (set us high l) ≡ set (set (map view ts) low y) high (Link low) =
+      map-set view us high l ∙ ap₂ (λ (zs : List Node) (z : TypeNode). set zs high (view z)) u el in
+      subst (λ (zs : List Node). Merged (map view ts) zs low high (Ok r)) (sym w)
+      (subst (λ (p : Option Parts). Merged (map view ts) (set (set (map view ts) low y) high (Link low)) low high (Ok p)) z
+      (merged_low_var (map view ts) low high y sound order here (at_low ∙ v) at_high (ap alive e ∙ two)))
 
-  pub bases : (p q : ℕ) → view (get_or ts low zero_node) ≡ Base p → view (get_or ts high zero_node) ≡ Base q → p ≡ q → Merged (graph ts n) (graph (set ts high (node 255 low 0)) n) low high Same
-  bases p q d e same = put Same (merged_bases (graph ts n) low high sound order here p q (at low (Base p) (omega arith) d) (at high (Base q) within e) same)
-
-  pub branches : (j k l m r s : ℕ) → view (get_or ts low zero_node) ≡ Branch j l r → view (get_or ts high zero_node) ≡ Branch k m s → j ≡ k → Merged (graph ts n) (graph (set ts high (node 255 low 0)) n) low high (Both l m r s)
-  branches j k l m r s d e same = put (Both l m r s) (merged_branches (graph ts n) low high sound order here j k l m r s (at low (Branch j l r) (omega arith) d) (at high (Branch k m s) within e) same)
-
-  says_low : (v : ℕ → Ty) (x : Node) → Solves v (graph ts n) → view (get_or ts low zero_node) ≡ x → Says v low x
-  says_low v x s e = says_at v (graph ts n) low x s (omega (arith, long)) (at low x (omega arith) e)
-
-  says_high : (v : ℕ → Ty) (x : Node) → Solves v (graph ts n) → view (get_or ts high zero_node) ≡ x → Says v high x
-  says_high v x s e = says_at v (graph ts n) high x s here (at high x within e)
-
-  pub apart_bases : (p q : ℕ) → view (get_or ts low zero_node) ≡ Base p → view (get_or ts high zero_node) ≡ Base q → p ≢ q → Apart (graph ts n) low high
-  apart_bases p q d e ne v s a = let x = says_low v (Base p) s d in let y = says_high v (Base q) s e in ne (cc)
-
-  pub apart_branches : (j k l m r t : ℕ) → view (get_or ts low zero_node) ≡ Branch j l r → view (get_or ts high zero_node) ≡ Branch k m t → j ≢ k → Apart (graph ts n) low high
-  apart_branches j k l m r t d e ne v s a = let x = says_low v (Branch j l r) s d in let y = says_high v (Branch k m t) s e in ne (cc)
-
-  pub apart_base_branch : (p k m t : ℕ) → view (get_or ts low zero_node) ≡ Base p → view (get_or ts high zero_node) ≡ Branch k m t → Apart (graph ts n) low high
-  apart_base_branch p k m t d e v s a =
-      let x = says_low v (Base p) s d in let y = says_high v (Branch k m t) s e in let z : ◌≡◌ {A = ℕ} 0 1 = cc in omega arith
-
-  pub apart_branch_base : (k l r q : ℕ) → view (get_or ts low zero_node) ≡ Branch k l r → view (get_or ts high zero_node) ≡ Base q → Apart (graph ts n) low high
-  apart_branch_base k l r q d e v s a =
-      let x = says_low v (Branch k l r) s d in let y = says_high v (Base q) s e in let z : ◌≡◌ {A = ℕ} 0 1 = cc in omega arith
+  pub merges_none : (c : Clash) → Err c ≡ compared x y → Apart (map view ts) low high
+  merges_none c q =
+      subst (Merged (map view ts) (set (map view ts) high (Link low)) low high) (sym q)
+      (linked (λ v. let n : Err c ≡ compared Var y = subst (λ (z : Node). Err c ≡ compared z y) v q in cc))

@@ -1,6 +1,7 @@
 -- Type graphs in a memory of type nodes, and their solutions.
 use Rattle.std.specs.Prelude.{◌≡◌, ℕ, ◌+◌, ◌<◌, ◌≤◌, cond, List, [], ◌∷◌, map, length, take, ◌==◌, slice_index_or}
 use Rattle.types.specs.Types.{Ty, base, branch}
+use Rattle.types.specs.Lists.{node}
 use Rattle.types.specs.declared.TypeNode.{TypeNode}
 use Rattle.graph.specs.declared.Node.{Node}
 use Rattle.graph.specs.declared.Node.TheVariants.{Var, Base, Branch, Link}
@@ -8,6 +9,13 @@ use Rattle.graph.specs.declared.Node.TheVariants.{Var, Base, Branch, Link}
 -- a record, read as a graph node: kind 0 is a variable, 1 a base, 255 a link, any other a branch of that kind
 abbrev pub view : TypeNode → Node
 view t = cond (t.kind == 0) Var (cond (t.kind == 1) (Base t.left) (cond (t.kind == 255) (Link t.left) (Branch t.kind t.left t.right)))
+
+-- the record that says what a node is
+abbrev pub record_of : Node → TypeNode
+record_of Var = node 0 0 0
+record_of (Base c) = node 1 c 0
+record_of (Branch k l r) = node k l r
+record_of (Link j) = node 255 j 0
 
 -- the graph in the first n records of a memory
 abbrev pub graph : List TypeNode → ℕ → List Node

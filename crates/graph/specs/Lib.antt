@@ -1,2 +1,3 @@
 pub mod Graph
 pub mod Unifying
+pub mod Memory

@@ -1,9 +1,10 @@
 // Type graphs in a lent memory of type nodes: classes of nodes that have the same type, and their unification.
 #![tactic(auto)]
 
-ghost use Rattle.std.specs.Prelude.{◌≡◌, ℕ, ◌<◌, ◌≤◌, length, slice_index_or};
-ghost use Rattle.graph.specs.Graph.{view, graph, Solves, Sound, alive, Kept, Always, Still};
-ghost use Rattle.graph.specs.Unifying.{Merged, Unified};
+ghost use Rattle.std.specs.Prelude.{◌≡◌, ℕ, ◌+◌, ◌<◌, ◌≤◌, map, length, slice_index_or, slice_set};
+ghost use Rattle.graph.specs.Graph.{view, record_of, Solves, Sound, alive, Kept, Always, Still};
+ghost use Rattle.graph.specs.Memory.{nodes, InPlace};
+ghost use Rattle.graph.specs.Unifying.{compared, Merged, Unified};
 ghost use Rattle.types.specs.Lists.{zero_node};
 ghost use Rattle.types.specs.Types.{Ty};
 
@@ -22,161 +23,197 @@ pub enum Node {
 // The kind of a record that is a link.
 pub const LINK: u8 = 255;
 
-// A record, read as a graph node.
+// What a record says.
+impl From<TypeNode> for Node {
+    ghost from_gives = { λ t n. n ≡ view t };
+
+    fn from(record: TypeNode) -> Node {
+        match record.kind {
+            VARIABLE => Node::Var,
+            BASE => Node::Base(record.left),
+            LINK => Node::Link(record.left),
+            _ => Node::Branch(record.kind, record.left, record.right),
+        }
+    }
+}
+
+// The same, by a name.
 pub fn look(record: TypeNode) -> Node
     ensures { result ≡ view «record» }
 {
-    match record.kind {
-        VARIABLE => Node::Var,
-        BASE => Node::Base(record.left),
-        LINK => Node::Link(record.left),
-        _ => Node::Branch(record.kind, record.left, record.right),
+    Node::from(record)
+}
+
+// The record that says it. A branch whose kind is another node's is read as that one.
+impl From<Node> for TypeNode {
+    ghost from_gives = { λ n t. t ≡ record_of n };
+
+    fn from(node: Node) -> TypeNode {
+        match node {
+            Node::Var => TypeNode::variable(0),
+            Node::Base(code) => TypeNode::base(code),
+            Node::Branch(kind, left, right) => TypeNode { kind, left, right },
+            Node::Link(next) => TypeNode {
+                kind: LINK,
+                left: next,
+                right: 0,
+            },
+        }
     }
 }
 
 // Lets the link at `at`, which goes to `next`, skip a link that stands there.
-fn shorten(memory: &mut [TypeNode], used: usize, at: u16, next: u16)
-    requires fits { used ≤ length memory.old }
-    requires within { at < used }
-    requires below { next < used }
-    requires sound { Sound (graph memory.old used) }
-    requires link { view (slice_index_or memory.old at zero_node) ≡ Node.Link next }
-    ensures kept { Kept (graph memory.old used) (graph memory.new used) Always Always }
-    ensures still { Still (graph memory.old used) (graph memory.new used) }
+fn shorten(nodes: &mut [TypeNode], at: u16, next: u16)
+    requires within { at < length nodes.old }
+    requires below { next < length nodes.old }
+    requires sound { Sound (map view nodes.old) }
+    requires link { view (slice_index_or nodes.old at zero_node) ≡ Node.Link next }
+    ensures kept { Kept (map view nodes.old) (map view nodes.new) Always Always }
+    ensures still { Still (map view nodes.old) (map view nodes.new) }
 {
-    if let Node::Link(far) = look(memory[next as usize]) {
-        memory[at as usize] = TypeNode {
-            kind: LINK,
-            left: far,
-            right: 0,
-        };
+    let there = nodes[next as usize];
+    if let Node::Link(_) = Node::from(there) {
+        nodes[at as usize] = there;
     }
 }
 
 // The representative of the class of `start`; links on the way to it become shorter.
-pub fn find_root(memory: &mut [TypeNode], used: usize, start: u16) -> u16
-    requires fits { used ≤ length memory.old }
-    requires inside { start < used }
-    requires sound { Sound (graph memory.old used) }
-    ensures inside { result < used }
-    ensures root { alive (view (slice_index_or memory.new result zero_node)) ≡ 1 }
-    ensures kept { Kept (graph memory.old used) (graph memory.new used) Always Always }
-    ensures still { Still (graph memory.old used) (graph memory.new used) }
-    ensures same { (v : ℕ → Ty) → Solves v (graph memory.old used) → v start ≡ v result }
+pub fn find_root(nodes: &mut [TypeNode], start: u16) -> u16
+    requires inside { start < length nodes.old }
+    requires sound { Sound (map view nodes.old) }
+    ensures inside { result < length nodes.old }
+    ensures root { alive (view (slice_index_or nodes.new result zero_node)) ≡ 1 }
+    ensures kept { Kept (map view nodes.old) (map view nodes.new) Always Always }
+    ensures still { Still (map view nodes.old) (map view nodes.new) }
+    ensures same { (v : ℕ → Ty) → Solves v (map view nodes.old) → v start ≡ v result }
 {
     let mut at = start;
-    while let Node::Link(next) = look(memory[at as usize]) {
-        shorten(memory, used, at, next);
+    while let Node::Link(next) = Node::from(nodes[at as usize]) {
+        shorten(nodes, at, next);
         at = next;
     }
     at
 }
 
-// What a merge leaves to do: nothing, nothing that could be done, or two pairs of parts that are still to be made alike.
-#[derive(Clone, Copy)]
-enum Step {
-    Same,
-    Clash,
-    Both(u16, u16, u16, u16),
+// Two nodes that no types make alike.
+#[derive(Clone, Copy, Debug, PartialEq)]
+pub struct Clash;
+
+// The left parts of two branches, and the right ones: two pairs of nodes that are to be made alike.
+#[derive(Clone, Copy, Debug, PartialEq)]
+struct Parts {
+    left: (u16, u16),
+    right: (u16, u16),
 }
 
-// Merges two classes, given by their representatives: the higher becomes a link to the lower, which takes over what the
-// higher one said where it said nothing itself.
-fn merge(memory: &mut [TypeNode], used: usize, low: u16, high: u16) -> Step
-    requires fits { used ≤ length memory.old }
-    requires sound { Sound (graph memory.old used) }
-    requires order { low < high }
-    requires within { high < used }
-    requires lower { alive (view (slice_index_or memory.old low zero_node)) ≡ 1 }
-    requires upper { alive (view (slice_index_or memory.old high zero_node)) ≡ 1 }
-    ensures { Merged (graph memory.old used) (graph memory.new used) low high result }
+// The parts that are alike where two representatives are, if they have any.
+fn compare(low: Node, high: Node) -> Result<Option<Parts>, Clash>
+    ensures { result ≡ compared low high }
 {
-    let upper = memory[high as usize];
-    let above = look(upper);
-    let link = TypeNode {
-        kind: LINK,
-        left: low,
-        right: 0,
-    };
-    match look(memory[low as usize]) {
-        Node::Var => {
-            memory[low as usize] = upper;
-            memory[high as usize] = link;
-            Step::Same
-        }
-        Node::Base(p) => match above {
-            Node::Var => {
-                memory[high as usize] = link;
-                Step::Same
-            }
-            Node::Base(q) => {
-                if p == q {
-                    memory[high as usize] = link;
-                    Step::Same
-                } else {
-                    Step::Clash
-                }
-            }
-            Node::Branch(_, _, _) => Step::Clash,
-            Node::Link(_) => unreachable(),
-        },
-        Node::Branch(j, l, r) => match above {
-            Node::Var => {
-                memory[high as usize] = link;
-                Step::Same
-            }
-            Node::Branch(k, m, s) => {
-                if j == k {
-                    memory[high as usize] = link;
-                    Step::Both(l, m, r, s)
-                } else {
-                    Step::Clash
-                }
-            }
-            Node::Base(_) => Step::Clash,
-            Node::Link(_) => unreachable(),
-        },
-        Node::Link(_) => unreachable(),
+    match (low, high) {
+        (Node::Var, _) | (_, Node::Var) => Ok(None),
+        (Node::Base(p), Node::Base(q)) if p == q => Ok(None),
+        (Node::Branch(j, l, r), Node::Branch(k, m, s)) if j == k => Ok(Some(Parts {
+            left: (l, m),
+            right: (r, s),
+        })),
+        _ => Err(Clash),
     }
 }
 
-// Merges the classes of `a` and `b`.
-fn join(memory: &mut [TypeNode], used: usize, a: u16, b: u16) -> Step
-    requires fits { used ≤ length memory.old }
-    requires sound { Sound (graph memory.old used) }
-    requires first { a < used }
-    requires second { b < used }
-    ensures { Merged (graph memory.old used) (graph memory.new used) a b result }
+// Merges two classes, given by their representatives: the higher becomes a link to the lower, which takes over what the
+// higher one said where it said nothing itself. It answers which parts are still to be made alike.
+fn merge(nodes: &mut [TypeNode], low: u16, high: u16) -> Result<Option<Parts>, Clash>
+    requires sound { Sound (map view nodes.old) }
+    requires order { low < high }
+    requires within { high < length nodes.old }
+    requires lower { alive (view (slice_index_or nodes.old low zero_node)) ≡ 1 }
+    requires upper { alive (view (slice_index_or nodes.old high zero_node)) ≡ 1 }
+    ensures { Merged (map view nodes.old) (map view nodes.new) low high result }
 {
-    let x = find_root(memory, used, a);
-    let y = find_root(memory, used, b);
+    let upper = nodes[high as usize];
+    let said = Node::from(nodes[low as usize]);
+    let parts = compare(said, Node::from(upper))?;
+    if let Node::Var = said {
+        nodes[low as usize] = upper;
+    }
+    nodes[high as usize] = TypeNode::from(Node::Link(low));
+    Ok(parts)
+}
+
+// Merges the classes of `a` and `b`.
+fn join(nodes: &mut [TypeNode], a: u16, b: u16) -> Result<Option<Parts>, Clash>
+    requires sound { Sound (map view nodes.old) }
+    requires first { a < length nodes.old }
+    requires second { b < length nodes.old }
+    ensures { Merged (map view nodes.old) (map view nodes.new) a b result }
+{
+    let x = find_root(nodes, a);
+    let y = find_root(nodes, b);
     if x < y {
-        merge(memory, used, x, y)
+        merge(nodes, x, y)
     } else if y < x {
-        merge(memory, used, y, x)
+        merge(nodes, y, x)
     } else {
-        Step::Same
+        Ok(None)
     }
 }
 
 // Gives `a` and `b` one type, with whatever follows from it, or says that no types do. Loops among the classes are not
 // looked for. Each call of itself has fewer classes before it.
-pub fn unify(memory: &mut [TypeNode], used: usize, a: u16, b: u16) -> bool
-    requires fits { used ≤ length memory.old }
-    requires sound { Sound (graph memory.old used) }
-    requires first { a < used }
-    requires second { b < used }
-    ensures { Unified (graph memory.old used) (graph memory.new used) a b result }
+pub fn unify(nodes: &mut [TypeNode], a: u16, b: u16) -> Result<(), Clash>
+    requires sound { Sound (map view nodes.old) }
+    requires first { a < length nodes.old }
+    requires second { b < length nodes.old }
+    ensures { Unified (map view nodes.old) (map view nodes.new) a b result }
 {
-    match join(memory, used, a, b) {
-        Step::Same => true,
-        Step::Clash => false,
-        Step::Both(l, m, r, s) => {
-            if unify(memory, used, l, m) {
-                unify(memory, used, r, s)
-            } else {
-                false
-            }
-        }
+    if let Some(
+        Parts {
+            left: (l, m),
+            right: (r, s),
+        },
+    ) = join(nodes, a, b)?
+    {
+        unify(nodes, l, m)?;
+        unify(nodes, r, s)?;
+    }
+    Ok(())
+}
+
+// A graph in the front of a lent memory, with room for more nodes behind it. What its nodes ask stands in the clauses of
+// what takes it: a ghost field beside a `&mut` gets no proof.
+#[derive(Drop)]
+pub struct Graph<'a> {
+    pub memory: &'a mut [TypeNode],
+    pub used: usize,
+}
+
+impl Graph<'_> {
+    // Adds a record; the answer is its place.
+    pub fn push(&mut self, node: TypeNode) -> u16
+        requires room { self.old.used < length self.old.memory.now }
+        requires small { self.old.used < 65536 }
+        ensures kept { InPlace self.old self.new }
+        ensures place { result ≡ self.old.used }
+        ensures used { self.new.used ≡ self.old.used + 1 }
+        ensures memory { self.new.memory.now ≡ slice_set self.old.memory.now self.old.used node }
+    {
+        let place = self.used;
+        self.memory[place] = node;
+        self.used += 1;
+        place as u16
+    }
+
+    // Gives two nodes one type, as `unify` does.
+    pub fn unify(&mut self, a: u16, b: u16) -> Result<(), Clash>
+        requires fits { self.old.used ≤ length self.old.memory.now }
+        requires sound { Sound (nodes self.old) }
+        requires first { a < self.old.used }
+        requires second { b < self.old.used }
+        ensures kept { InPlace self.old self.new }
+        ensures used { self.new.used ≡ self.old.used }
+        ensures unified { Unified (nodes self.old) (nodes self.new) a b result }
+    {
+        unify(&mut self.memory[..self.used], a, b)
     }
 }

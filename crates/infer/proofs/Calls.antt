@@ -1,14 +1,16 @@
 -- Function types and calls at the end of a graph.
-use Rattle.std.proofs.Common.{◌≡◌, ℕ, ◌+◌, ◌<◌, ◌≤◌, true, List, [], ◌∷◌, ◌++◌, length, set, sym, ◌∙◌, subst, ap₂, arith}
-use Rattle.std.proofs.lemmas.List.{length-set}
+use Rattle.std.proofs.Common.{◌≡◌, ℕ, ◌+◌, ◌<◌, ◌≤◌, Option, Some, None, Result, Ok, Err, List, [], ◌∷◌, ◌++◌, map, take, length, set, sym, ◌∙◌, subst, ap₂, arith}
+use Rattle.std.proofs.lemmas.List.{length-set, length-map, length-take}
 use Rattle.types.specs.Types.{Ty, arrow}
 use Rattle.types.specs.Lists.{node, zero_node}
 use Rattle.types.specs.declared.TypeNode.{TypeNode}
-use Rattle.graph.specs.Graph.{Solves, Sound, graph}
+use Rattle.graph.specs.Graph.{view, Solves, Sound, graph}
 use Rattle.graph.specs.Unifying.{Unified, Apart}
+use Rattle.std.specs.Result.{result_ok}
+use Rattle.graph.specs.declared.Clash.{Clash}
 use Rattle.graph.specs.declared.Node.{Node}
 use Rattle.graph.specs.declared.Node.TheVariants.{Var, Branch}
-use Rattle.graph.proofs.Memory.{graph_length, graph_push}
+use Rattle.graph.proofs.Memory.{graph_length, graph_push, graph_front}
 use Rattle.copy.specs.Told.{Agree, Told, Never}
 use Rattle.copy.proofs.Grow.{upd, upd_same, upd_below, pushed_length, pushed_sound, pushed_pop, pushed_last, pushed_onto}
 use Rattle.infer.specs.Passes.{OfCall, OfArrow, Refused}
@@ -53,7 +55,7 @@ module _ (ns n1 n2 : List Node) (g y r h : ℕ) (sound : Sound ns) (hg : g < len
       let s2 : Solves w n2 = pushed_onto n1 n2 (Branch 2 y r) e2 u h (arrow (v y) τ) eh sound1 s1 (wh ∙ ap₂ arrow (sym (wy ∙ uy)) (sym (wr ∙ ur))) in
       (w, (λ k l. upd_below u h (arrow (v y) τ) k (omega arith) ∙ upd_below v r τ k (omega arith)), s2, wg ∙ ug ∙ t ∙ sym wh, wr ∙ ur)
 
-  told_call : (ms : List Node) → length ms ≡ length n2 → Unified n2 ms g h true → Told ns ms r (OfCall g y)
+  told_call : (ms : List Node) → length ms ≡ length n2 → Unified n2 ms g h (Ok tt) → Told ns ms r (OfCall g y)
   told_call ms len k =
       let l1 = pushed_length ns n1 Var e1 in
       let l2 = pushed_length n1 n2 (Branch 2 y r) e2 in
@@ -70,6 +72,15 @@ module _ (ns n1 n2 : List Node) (g y r h : ℕ) (sound : Sound ns) (hg : g < len
 
   no_call : Apart n2 g h → Never ns (OfCall g y)
   no_call apart v τ s t = let c = call_onto v τ s t in apart c.0 c.2 c.3
+
+-- what unification answers, as an option
+unified_ok : (ns ms : List Node) (a b : ℕ) (r : Result Unit Clash) (o : Unit) → Some o ≡ result_ok r → Unified ns ms a b r → Unified ns ms a b (Ok tt)
+unified_ok ns ms a b (Ok w) o e u = u
+unified_ok ns ms a b (Err c) o e u = absurd (cc)
+
+unified_err : (ns ms : List Node) (a b : ℕ) (r : Result Unit Clash) → None ≡ result_ok r → Unified ns ms a b r → Apart ns a b
+unified_err ns ms a b (Ok w) e u = absurd (cc)
+unified_err ns ms a b (Err c) e u = u
 
 -- the same in a memory
 pub mem_close : (ts : List TypeNode) (n a b : ℕ) → Sound (graph ts n) → n + 1 ≤ length ts → a < n → b < n → Told (graph ts n) (graph (set ts n (node 2 a b)) (n + 1)) n (OfArrow a b)
@@ -104,10 +115,14 @@ module _ (ts : List TypeNode) (n g y : ℕ) (sound : Sound (graph ts n)) (room :
   pub mem_long : length two ≡ length ts
   mem_long = omega (arith, length-set ts n zero_node, length-set one (n + 1) (node 2 y n))
 
-  pub mem_told : (us : List TypeNode) → length us ≡ length two → Unified (graph two (n + 2)) (graph us (n + 2)) g (n + 1) true → Told (graph ts n) (graph us (n + 2)) n (OfCall g y)
-  mem_told us e u =
-      told_call (graph ts n) (graph one (n + 1)) (graph two (n + 2)) g y n (n + 1) sound (omega (arith, l0)) (omega (arith, l0)) (sym l0) e1 (sym l1) e2
-      (graph us (n + 2)) (graph_length us (n + 2) (omega (arith, mem_long)) ∙ sym (graph_length two (n + 2) (omega (arith, mem_long)))) u
+  -- the first n + 2 records are lent to be unified, and become us
+  module _ (us : List TypeNode) (r : Result Unit Clash) (u : Unified (graph two (n + 2)) (map view us) g (n + 1) r) where
+    pub mem_told : (rest : List TypeNode) (o : Unit) → length us ≡ length (take (n + 2) two) → Some o ≡ result_ok r → Told (graph ts n) (graph (us ++ rest) (n + 2)) n (OfCall g y)
+    mem_told rest o long e =
+        let full : length us ≡ n + 2 = omega (arith, length-take (n + 2) two, mem_long) in
+        rw (graph_front us rest (n + 2) full)
+        (told_call (graph ts n) (graph one (n + 1)) (graph two (n + 2)) g y n (n + 1) sound (omega (arith, l0)) (omega (arith, l0)) (sym l0) e1 (sym l1) e2
+        (map view us) (omega (arith, length-map us view, graph_length two (n + 2) (omega (arith, mem_long)))) (unified_ok _ _ _ _ r o e u))
 
-  pub mem_none : Apart (graph two (n + 2)) g (n + 1) → Refused (graph ts n) (OfCall g y)
-  mem_none u = record { never = no_call (graph ts n) (graph one (n + 1)) (graph two (n + 2)) g y n (n + 1) sound (omega (arith, l0)) (omega (arith, l0)) (sym l0) e1 (sym l1) e2 u }
+    pub mem_none : None ≡ result_ok r → Refused (graph ts n) (OfCall g y)
+    mem_none e = record { never = no_call (graph ts n) (graph one (n + 1)) (graph two (n + 2)) g y n (n + 1) sound (omega (arith, l0)) (omega (arith, l0)) (sym l0) e1 (sym l1) e2 (unified_err _ _ _ _ r e u) }

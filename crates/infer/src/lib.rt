@@ -100,11 +100,8 @@ fn call(memory: &mut [TypeNode], used: usize, function: u16, argument: u16) -> O
         left: argument,
         right: result,
     };
-    if unify(memory, used + 2, function, whole) {
-        Some(result)
-    } else {
-        None
-    }
+    unify(&mut memory[..used + 2], function, whole).ok()?;
+    Some(result)
 }
 
 // The graph node of a term node without parts: a variable has its binder's node, a primitive or a reference a copy of

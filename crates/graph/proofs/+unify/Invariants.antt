@@ -1,5 +1,6 @@
-use Rattle.graph.specs.Graph.{graph, live}
+use Rattle.std.proofs.Common.{map}
+use Rattle.graph.specs.Graph.{view, live}
 use Rattle.graph.proofs.+unify.Given as goal
 
 abbrev pub decreases-unify : goal.decreases-unify
-decreases-unify l = live (graph l.memory.now l.used)
+decreases-unify l = live (map view l.nodes.now)

@@ -1,11 +1,11 @@
-use Rattle.std.proofs.Common.{◌≡◌, ℕ, ◌<◌}
+use Rattle.std.proofs.Common.{◌≡◌, ℕ, ◌<◌, map, length}
 use Rattle.types.specs.Types.{Ty}
-use Rattle.graph.specs.Graph.{graph, Solves, Kept, Always, Still}
+use Rattle.graph.specs.Graph.{view, Solves, Kept, Always, Still}
 use Rattle.graph.proofs.find_root.Given as goal
 
 abbrev pub invariant-loop-next : goal.invariant-loop-next
 invariant-loop-next l =
-    (l.at < l.used) × Kept (graph l.initial.memory l.used) (graph l.memory l.used) Always Always × Still (graph l.initial.memory l.used) (graph l.memory l.used) × ((v : ℕ → Ty) → Solves v (graph l.initial.memory l.used) → v l.start ≡ v l.at)
+    (l.at < length l.nodes) × Kept (map view l.initial.nodes) (map view l.nodes) Always Always × Still (map view l.initial.nodes) (map view l.nodes) × ((v : ℕ → Ty) → Solves v (map view l.initial.nodes) → v l.start ≡ v l.at)
 
 abbrev pub decreases-loop-next : goal.decreases-loop-next
 decreases-loop-next l = l.at

@@ -1,14 +1,11 @@
-use Rattle.std.proofs.Common.{arith}
-use Rattle.infer.proofs.Calls.{mem_sound, mem_long, mem_told, mem_none}
+use Rattle.infer.proofs.Calls.{mem_sound, mem_told, mem_none}
 use Rattle.infer.proofs.call.Goals as goal
 
-pub unify-requires : goal.unify-requires
-unify-requires c =
-    let p = c.requires in
-    record { fits = omega (arith, p.room, mem_long c.args.memory.now c.args.used c.args.function c.args.argument p.sound p.room p.first p.second); sound = mem_sound _ _ _ _ p.sound p.room p.first p.second; first = omega (arith, p.first); second = omega arith }
+pub unify-requires-clause-sound : goal.unify-requires-clause-sound
+unify-requires-clause-sound c = let p = c.requires in mem_sound _ _ _ _ p.sound p.room p.first p.second
 
-pub returns-then-unify : goal.returns-then-unify
-returns-then-unify c = let p = c.requires in mem_told _ _ _ _ p.sound p.room p.first p.second c.unify.new.memory (omega arith) c.if-unify.ensures
+pub returns : goal.returns
+returns c = let p = c.requires in mem_told _ _ _ _ p.sound p.room p.first p.second _ _ c.unify.ensures _ _ c.unify.auto.nodes c.in_ok-ok.ensures.value
 
-pub returns-else-unify : goal.returns-else-unify
-returns-else-unify c = let p = c.requires in mem_none _ _ _ _ p.sound p.room p.first p.second c.if-unify.ensures
+pub returns-in_err-ok : goal.returns-in_err-ok
+returns-in_err-ok c = let p = c.requires in rw c.from_residual.ensures (mem_none _ _ _ _ p.sound p.room p.first p.second _ _ c.unify.ensures c.in_err-ok.ensures.value)
