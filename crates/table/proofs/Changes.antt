@@ -10,7 +10,7 @@ use Rattle.table.specs.declared.entry.Entry.{Entry}
 use Rattle.table.specs.declared.table.Table.{Table}
 use Rattle.table.specs.Rows.{Row, row, Proper}
 use Rattle.table.specs.WellFormed.{row_passes}
-use Rattle.table.specs.Entries.{no_entry, part, row_at, in_use, end_of, InOrder, RowsPass, start_of_term, term_long, start_of_list, list_long}
+use Rattle.table.specs.Entries.{no_entry, part, row_at, in_use, end_of, InOrder, RowsPass, term_span, list_span}
 use Rattle.table.specs.View.{view, candidate_if, is_held, term_nodes, list_nodes, with_candidate, filed, withdrawn}
 use Rattle.table.specs.Filed.{rows_long}
 use Rattle.table.proofs.Ends.{part_before, part_written, ends_rise, entry_within, fewer_in_order, order_set, end_added, rows_alike}
@@ -23,10 +23,10 @@ pub record Invariant (es : List Entry) (terms : List TermNode) (types : List Typ
   pub terms_long : length terms ≡ 4096
   pub types_long : length types ≡ 4096
   pub few : n ≤ 128
-  pub terms_order : InOrder start_of_term term_long es n
-  pub lists_order : InOrder start_of_list list_long es n
-  pub terms_within : end_of start_of_term term_long es n ≤ 4096
-  pub lists_within : end_of start_of_list list_long es n ≤ 4096
+  pub terms_order : InOrder term_span es n
+  pub lists_order : InOrder list_span es n
+  pub terms_within : end_of term_span es n ≤ 4096
+  pub lists_within : end_of list_span es n ≤ 4096
   pub rows_pass : RowsPass es terms types n
 
 pub fewer_rows : (t : Table) (m : ℕ) → m ≤ in_use t.count t.«open» → Invariant t.entries t.terms t.types m
@@ -37,10 +37,10 @@ fewer_rows t m h =
       terms_long = t.terms_long;
       types_long = t.types_long;
       few = omega (arith, t.few);
-      terms_order = fewer_in_order start_of_term term_long t.entries n m h t.terms_order;
-      lists_order = fewer_in_order start_of_list list_long t.entries n m h t.lists_order;
-      terms_within = omega (arith, ends_rise start_of_term term_long t.entries n t.terms_order m h, t.terms_within);
-      lists_within = omega (arith, ends_rise start_of_list list_long t.entries n t.lists_order m h, t.lists_within);
+      terms_order = fewer_in_order term_span t.entries n m h t.terms_order;
+      lists_order = fewer_in_order list_span t.entries n m h t.lists_order;
+      terms_within = omega (arith, ends_rise term_span t.entries n t.terms_order m h, t.terms_within);
+      lists_within = omega (arith, ends_rise list_span t.entries n t.lists_order m h, t.lists_within);
       rows_pass = λ k lt. t.rows_pass k (omega arith);
     }
 
@@ -52,7 +52,7 @@ module _ (t : Table) (term : List TermNode) (list : List TypeNode) (s u : ℕ) (
     (at_s : s ≡ term_nodes (view t)) (at_u : u ≡ list_nodes (view t))
     (written_s : terms ≡ paste t.terms s term (length term)) (written_u : types ≡ paste t.types u list (length list)) where
   abbrev new_entry : Entry
-  new_entry = record { term_start = s; term_length = length term; list_start = u; list_length = length list }
+  new_entry = record { term = record { start = s; length = length term }; list = record { start = u; length = length list } }
 
   abbrev new_entries : List Entry
   new_entries = set t.entries t.count new_entry
@@ -66,17 +66,17 @@ module _ (t : Table) (term : List TermNode) (list : List TypeNode) (s u : ℕ) (
   within : t.count < length t.entries
   within = omega (arith, place, t.entries_long)
 
-  terms_in_order : InOrder start_of_term term_long t.entries t.count
-  terms_in_order = subst (InOrder start_of_term term_long t.entries) none_open t.terms_order
+  terms_in_order : InOrder term_span t.entries t.count
+  terms_in_order = subst (InOrder term_span t.entries) none_open t.terms_order
 
-  lists_in_order : InOrder start_of_list list_long t.entries t.count
-  lists_in_order = subst (InOrder start_of_list list_long t.entries) none_open t.lists_order
+  lists_in_order : InOrder list_span t.entries t.count
+  lists_in_order = subst (InOrder list_span t.entries) none_open t.lists_order
 
-  s_end : s ≡ end_of start_of_term term_long t.entries t.count
-  s_end = at_s ∙ term_nodes_end t ∙ ap (end_of start_of_term term_long t.entries) none_open
+  s_end : s ≡ end_of term_span t.entries t.count
+  s_end = at_s ∙ term_nodes_end t ∙ ap (end_of term_span t.entries) none_open
 
-  u_end : u ≡ end_of start_of_list list_long t.entries t.count
-  u_end = at_u ∙ list_nodes_end t ∙ ap (end_of start_of_list list_long t.entries) none_open
+  u_end : u ≡ end_of list_span t.entries t.count
+  u_end = at_u ∙ list_nodes_end t ∙ ap (end_of list_span t.entries) none_open
 
   -- the rows before it stay
   row_stays : (k : ℕ) → k < t.count → row_at terms types (get_or new_entries k no_entry) ≡ row_at t.terms t.types (get_or t.entries k no_entry)
@@ -85,10 +85,10 @@ module _ (t : Table) (term : List TermNode) (list : List TypeNode) (s u : ℕ) (
       let e : Entry = get_or t.entries k no_entry in
       ap (row_at terms types) (get_or-set_other t.entries t.count k new_entry no_entry ne)
       ∙ ap₂ row
-      (ap (part e.term_start e.term_length) written_s
-      ∙ part_before e.term_start e.term_length s (length term) t.terms term (omega (arith, s_end, entry_within start_of_term term_long t.entries t.count terms_in_order k h)) (omega (arith, at_s, room_s, t.terms_long)))
-      (ap (part e.list_start e.list_length) written_u
-      ∙ part_before e.list_start e.list_length u (length list) t.types list (omega (arith, u_end, entry_within start_of_list list_long t.entries t.count lists_in_order k h)) (omega (arith, at_u, room_u, t.types_long)))
+      (ap (part e.term.start e.term.length) written_s
+      ∙ part_before e.term.start e.term.length s (length term) t.terms term (omega (arith, s_end, entry_within term_span t.entries t.count terms_in_order k h)) (omega (arith, at_s, room_s, t.terms_long)))
+      (ap (part e.list.start e.list.length) written_u
+      ∙ part_before e.list.start e.list.length u (length list) t.types list (omega (arith, u_end, entry_within list_span t.entries t.count lists_in_order k h)) (omega (arith, at_u, room_u, t.types_long)))
 
   row_new : row_at terms types (get_or new_entries t.count no_entry) ≡ row term list
   row_new =
@@ -115,10 +115,10 @@ module _ (t : Table) (term : List TermNode) (list : List TypeNode) (s u : ℕ) (
         terms_long = ap length written_s ∙ length-paste t.terms s term (length term) (omega (arith, at_s, room_s, t.terms_long)) (omega arith) ∙ t.terms_long;
         types_long = ap length written_u ∙ length-paste t.types u list (length list) (omega (arith, at_u, room_u, t.types_long)) (omega arith) ∙ t.types_long;
         few = omega (arith, place);
-        terms_order = order_set start_of_term term_long t.entries t.count new_entry within terms_in_order s_end;
-        lists_order = order_set start_of_list list_long t.entries t.count new_entry within lists_in_order u_end;
-        terms_within = omega (arith, end_added start_of_term term_long t.entries t.count new_entry within, at_s, room_s);
-        lists_within = omega (arith, end_added start_of_list list_long t.entries t.count new_entry within, at_u, room_u);
+        terms_order = order_set term_span t.entries t.count new_entry within terms_in_order s_end;
+        lists_order = order_set list_span t.entries t.count new_entry within lists_in_order u_end;
+        terms_within = omega (arith, end_added term_span t.entries t.count new_entry within, at_s, room_s);
+        lists_within = omega (arith, end_added list_span t.entries t.count new_entry within, at_u, room_u);
         rows_pass = rows_pass;
       }
 

@@ -5,8 +5,9 @@ use Rattle.std.proofs.lemmas.List.{append_assoc, length-take-le, length-drop, le
 use Rattle.std.proofs.lemmas.List.Edits.{paste_more}
 use Rattle.std.proofs.lemmas.Bool.{cases_eq}
 use Rattle.table.specs.declared.entry.Entry.{Entry}
+use Rattle.table.specs.declared.entry.Span.{Span}
 use Rattle.table.specs.Rows.{Row}
-use Rattle.table.specs.Entries.{no_entry, part, end_of, InOrder}
+use Rattle.table.specs.Entries.{no_entry, part, span_end, end_of, InOrder}
 use Rattle.table.specs.View.{total}
 
 -- parts of a memory
@@ -16,13 +17,6 @@ module _ {A : Type 0} (start n : ℕ) (xs : List A) (h : start + n ≤ length xs
 
   pub part_at : (i : ℕ) (d : A) → i < n → get_or (part start n xs) i d ≡ get_or xs (start + i) d
   part_at i d lt = get_or-take n (drop start xs) i d lt ∙ get_or-drop start xs i d
-
--- one node more copied from a part
-pub copied_more : {A : Type 0} (from to was : List A) (start at i : ℕ) (x : A) → to ≡ paste was at (drop start from) i → start + i < length from → at + i < length was → x ≡ get_or from (start + i) x → set to (at + i) x ≡ paste was at (drop start from) (i + 1)
-copied_more {A} from to was start at i x e there room is =
-    ap (λ (ys : List A). set ys (at + i) x) e
-    ∙ ap (λ (y : A). set (paste was at (drop start from) i) (at + i) y) (is ∙ sym (get_or-drop start from i x))
-    ∙ paste_more was at (drop start from) i x room (omega (arith, length-drop start from))
 
 -- what is written behind a part leaves it
 pub part_before : {A : Type 0} (start n at m : ℕ) (xs s : List A) → start + n ≤ at → at ≤ length xs → part start n (paste xs at s m) ≡ part start n xs
@@ -41,61 +35,61 @@ part_written at m xs s inside e =
     ∙ take_at (take m s) (drop (at + m) xs) m m-long
     ∙ whole
 
-module _ (start long : Entry → ℕ) where
-  pub ends_rise : (es : List Entry) (n : ℕ) → InOrder start long es n → (k : ℕ) → k ≤ n → end_of start long es k ≤ end_of start long es n
+module _ (span : Entry → Span) where
+  pub ends_rise : (es : List Entry) (n : ℕ) → InOrder span es n → (k : ℕ) → k ≤ n → end_of span es k ≤ end_of span es n
   ends_rise es zero order zero h = omega arith
   ends_rise es zero order (suc k) h = absurd (omega arith)
   ends_rise es (suc n) order k h =
       ⊎_elim
-      (λ (e : k ≡ suc n). (let q : end_of start long es k ≡ end_of start long es (suc n) = ap (end_of start long es) e in omega arith))
+      (λ (e : k ≡ suc n). (let q : end_of span es k ≡ end_of span es (suc n) = ap (end_of span es) e in omega arith))
       (λ (ne : k ≢ suc n).
-      (let below : end_of start long es k ≤ end_of start long es n = ends_rise es n (λ j lt. order j (omega arith)) k (omega arith) in
-      let here : start (get_or es n no_entry) ≡ end_of start long es n = order n (omega arith) in
+      (let below : end_of span es k ≤ end_of span es n = ends_rise es n (λ j lt. order j (omega arith)) k (omega arith) in
+      let here : (span (get_or es n no_entry)).start ≡ end_of span es n = order n (omega arith) in
       omega arith))
       (cases_eq k (suc n))
 
-  pub last_end : (es : List Entry) (n : ℕ) → (n ≡ 0 → ⊥) → start (get_or es (n - 1) no_entry) + long (get_or es (n - 1) no_entry) ≡ end_of start long es n
+  pub last_end : (es : List Entry) (n : ℕ) → (n ≡ 0 → ⊥) → span_end (span (get_or es (n - 1) no_entry)) ≡ end_of span es n
   last_end es zero some = absurd (some refl)
-  last_end es (suc n) some = let e : suc n - 1 ≡ n = omega arith in ap (λ (k : ℕ). start (get_or es k no_entry) + long (get_or es k no_entry)) e
+  last_end es (suc n) some = let e : suc n - 1 ≡ n = omega arith in ap (λ (k : ℕ). span_end (span (get_or es k no_entry))) e
 
   -- each entry ends within what all of them end within
-  pub entry_within : (es : List Entry) (n : ℕ) → InOrder start long es n → (k : ℕ) → k < n → start (get_or es k no_entry) + long (get_or es k no_entry) ≤ end_of start long es n
+  pub entry_within : (es : List Entry) (n : ℕ) → InOrder span es n → (k : ℕ) → k < n → span_end (span (get_or es k no_entry)) ≤ end_of span es n
   entry_within es n order k h = ends_rise es n order (suc k) (omega arith)
 
-  pub fewer_in_order : (es : List Entry) (n m : ℕ) → m ≤ n → InOrder start long es n → InOrder start long es m
+  pub fewer_in_order : (es : List Entry) (n m : ℕ) → m ≤ n → InOrder span es n → InOrder span es m
   fewer_in_order es n m h order k lt = order k (omega arith)
 
   -- an entry written at a place leaves the ends up to there
-  pub end_set : (es : List Entry) (i : ℕ) (e : Entry) (k : ℕ) → k ≤ i → end_of start long (set es i e) k ≡ end_of start long es k
+  pub end_set : (es : List Entry) (i : ℕ) (e : Entry) (k : ℕ) → k ≤ i → end_of span (set es i e) k ≡ end_of span es k
   end_set es i e zero h = refl
   end_set es i e (suc k) h =
       let ne : k ≢ i = omega arith in
-      ap (λ (x : Entry). start x + long x) (get_or-set_other es i k e no_entry ne)
+      ap (λ (x : Entry). span_end (span x)) (get_or-set_other es i k e no_entry ne)
 
-  pub order_set : (es : List Entry) (n : ℕ) (e : Entry) → n < length es → InOrder start long es n → start e ≡ end_of start long es n → InOrder start long (set es n e) (suc n)
+  pub order_set : (es : List Entry) (n : ℕ) (e : Entry) → n < length es → InOrder span es n → (span e).start ≡ end_of span es n → InOrder span (set es n e) (suc n)
   order_set es n e room order here k lt =
       ⊎_elim
       (λ (q : k ≡ n).
-      subst (λ (m : ℕ). start (get_or (set es n e) m no_entry) ≡ end_of start long (set es n e) m) (sym q)
-      (ap start (get_or-set_same es n e no_entry room) ∙ here ∙ sym (end_set es n e n (omega arith))))
+      subst (λ (m : ℕ). (span (get_or (set es n e) m no_entry)).start ≡ end_of span (set es n e) m) (sym q)
+      (ap (λ (x : Entry). (span x).start) (get_or-set_same es n e no_entry room) ∙ here ∙ sym (end_set es n e n (omega arith))))
       (λ (ne : k ≢ n).
       (let low : k < n = omega arith in
-      ap start (get_or-set_other es n k e no_entry ne) ∙ order k low ∙ sym (end_set es n e k (omega arith))))
+      ap (λ (x : Entry). (span x).start) (get_or-set_other es n k e no_entry ne) ∙ order k low ∙ sym (end_set es n e k (omega arith))))
       (cases_eq k n)
 
-  pub end_added : (es : List Entry) (n : ℕ) (e : Entry) → n < length es → end_of start long (set es n e) (suc n) ≡ start e + long e
-  end_added es n e room = ap (λ (x : Entry). start x + long x) (get_or-set_same es n e no_entry room)
+  pub end_added : (es : List Entry) (n : ℕ) (e : Entry) → n < length es → end_of span (set es n e) (suc n) ≡ span_end (span e)
+  end_added es n e room = ap (λ (x : Entry). span_end (span x)) (get_or-set_same es n e no_entry room)
 
 total_push : (f : Row → ℕ) (rs : List Row) (r : Row) → total f (rs ++ r ∷ []) ≡ total f rs + f r
 total_push f [] r = omega arith
 total_push f (x ∷ rs) r = let h = total_push f rs r in omega arith
 
 -- the nodes of the first n rows end where their entries end
-pub total_ends : (start long : Entry → ℕ) (f : Row → ℕ) (g : Entry → Row) (es : List Entry) (n : ℕ) → n ≤ length es → InOrder start long es n → ((k : ℕ) → k < n → f (g (get_or es k no_entry)) ≡ long (get_or es k no_entry)) → total f (map g (take n es)) ≡ end_of start long es n
-total_ends start long f g es zero h order each = refl
-total_ends start long f g es (suc n) h order each =
+pub total_ends : (span : Entry → Span) (f : Row → ℕ) (g : Entry → Row) (es : List Entry) (n : ℕ) → n ≤ length es → InOrder span es n → ((k : ℕ) → k < n → f (g (get_or es k no_entry)) ≡ (span (get_or es k no_entry)).length) → total f (map g (take n es)) ≡ end_of span es n
+total_ends span f g es zero h order each = refl
+total_ends span f g es (suc n) h order each =
     let one : suc n ≡ n + 1 = omega arith in
-    let below = total_ends start long f g es n (omega arith) (λ k lt. order k (omega arith)) (λ k lt. each k (omega arith)) in
+    let below = total_ends span f g es n (omega arith) (λ k lt. order k (omega arith)) (λ k lt. each k (omega arith)) in
     let pushed = total_push f (map g (take n es)) (g (get_or es n no_entry)) in
     let here = each n (omega arith) in
     let begins = order n (omega arith) in

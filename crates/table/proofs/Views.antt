@@ -4,7 +4,7 @@ use Rattle.std.proofs.lemmas.List.{append-nil, length-map, length-take-le, map_m
 use Rattle.table.specs.declared.entry.Entry.{Entry}
 use Rattle.table.specs.declared.table.Table.{Table}
 use Rattle.table.specs.Rows.{Row, no_row, Proper}
-use Rattle.table.specs.Entries.{no_entry, row_at, in_use, end_of, start_of_term, term_long, start_of_list, list_long}
+use Rattle.table.specs.Entries.{no_entry, row_at, in_use, span_end, end_of, term_span, list_span}
 use Rattle.table.specs.View.{view, candidate_if, held, is_held, kept, kept_row, total, term_nodes, list_nodes, AllProper}
 use Rattle.table.specs.Places.{Places}
 use Rattle.table.specs.Filed.{filed_list, rows_long}
@@ -39,27 +39,27 @@ module _ (t : Table) where
   pub kept_past : (k : ℕ) → in_use t.count t.«open» ≤ k → kept_row (view t) k ≡ no_row
   kept_past k h = get_or_past (kept (view t)) k no_row (omega (arith, kept_long))
 
-  pub term_within : (k : ℕ) → k < in_use t.count t.«open» → (get_or t.entries k no_entry).term_start + (get_or t.entries k no_entry).term_length ≤ 4096
+  pub term_within : (k : ℕ) → k < in_use t.count t.«open» → span_end (get_or t.entries k no_entry).term ≤ 4096
   term_within k h =
-      let e = entry_within start_of_term term_long t.entries (in_use t.count t.«open») t.terms_order k h in
+      let e = entry_within term_span t.entries (in_use t.count t.«open») t.terms_order k h in
       omega (arith, t.terms_within)
 
-  pub list_within : (k : ℕ) → k < in_use t.count t.«open» → (get_or t.entries k no_entry).list_start + (get_or t.entries k no_entry).list_length ≤ 4096
+  pub list_within : (k : ℕ) → k < in_use t.count t.«open» → span_end (get_or t.entries k no_entry).list ≤ 4096
   list_within k h =
-      let e = entry_within start_of_list list_long t.entries (in_use t.count t.«open») t.lists_order k h in
+      let e = entry_within list_span t.entries (in_use t.count t.«open») t.lists_order k h in
       omega (arith, t.lists_within)
 
-  pub term_nodes_end : term_nodes (view t) ≡ end_of start_of_term term_long t.entries (in_use t.count t.«open»)
+  pub term_nodes_end : term_nodes (view t) ≡ end_of term_span t.entries (in_use t.count t.«open»)
   term_nodes_end =
       ap (total (λ r. length r.term)) kept_is
-      ∙ total_ends start_of_term term_long (λ r. length r.term) (row_at t.terms t.types) t.entries (in_use t.count t.«open») (omega (arith, t.few, t.entries_long)) t.terms_order
-      (λ k h. part_length (get_or t.entries k no_entry).term_start (get_or t.entries k no_entry).term_length t.terms (omega (arith, term_within k h, t.terms_long)))
+      ∙ total_ends term_span (λ r. length r.term) (row_at t.terms t.types) t.entries (in_use t.count t.«open») (omega (arith, t.few, t.entries_long)) t.terms_order
+      (λ k h. part_length (get_or t.entries k no_entry).term.start (get_or t.entries k no_entry).term.length t.terms (omega (arith, term_within k h, t.terms_long)))
 
-  pub list_nodes_end : list_nodes (view t) ≡ end_of start_of_list list_long t.entries (in_use t.count t.«open»)
+  pub list_nodes_end : list_nodes (view t) ≡ end_of list_span t.entries (in_use t.count t.«open»)
   list_nodes_end =
       ap (total (λ r. length r.list)) kept_is
-      ∙ total_ends start_of_list list_long (λ r. length r.list) (row_at t.terms t.types) t.entries (in_use t.count t.«open») (omega (arith, t.few, t.entries_long)) t.lists_order
-      (λ k h. part_length (get_or t.entries k no_entry).list_start (get_or t.entries k no_entry).list_length t.types (omega (arith, list_within k h, t.types_long)))
+      ∙ total_ends list_span (λ r. length r.list) (row_at t.terms t.types) t.entries (in_use t.count t.«open») (omega (arith, t.few, t.entries_long)) t.lists_order
+      (λ k h. part_length (get_or t.entries k no_entry).list.start (get_or t.entries k no_entry).list.length t.types (omega (arith, list_within k h, t.types_long)))
 
   -- each row may be kept
   pub all_proper : AllProper (view t)
