@@ -2,12 +2,11 @@
 use Rattle.std.proofs.Common.{◌≡◌, ℕ, zero, suc, ◌+◌, ◌-◌, ◌<◌, ◌≤◌, ◌≢◌, List, [], ◌∷◌, ◌++◌, map, length, get_or, take, drop, set, sym, refl, ap, ◌∙◌, subst, ⊎_elim, arith}
 use lib.Seq.{paste}
 use Rattle.std.proofs.lemmas.List.{append_assoc, length-take-le, length-drop, length-map, drop-take, take-take, take-append-le, drop_at, take_at, take_all, get_or-take, get_or-drop, get_or-map, get_or-set_same, get_or-set_other, same_lists, map_more}
-use Rattle.std.proofs.lemmas.List.Edits.{paste_more}
 use Rattle.std.proofs.lemmas.Bool.{cases_eq}
 use Rattle.table.specs.declared.entry.Entry.{Entry}
 use Rattle.table.specs.declared.entry.Span.{Span}
 use Rattle.table.specs.Rows.{Row}
-use Rattle.table.specs.Entries.{no_entry, part, span_end, end_of, InOrder}
+use Rattle.table.specs.Entries.{no_entry, no_span, part, span_end, end_of, InOrder}
 use Rattle.table.specs.View.{total}
 
 -- parts of a memory
@@ -48,9 +47,12 @@ module _ (span : Entry → Span) where
       omega arith))
       (cases_eq k (suc n))
 
-  pub last_end : (es : List Entry) (n : ℕ) → (n ≡ 0 → ⊥) → span_end (span (get_or es (n - 1) no_entry)) ≡ end_of span es n
-  last_end es zero some = absurd (some refl)
-  last_end es (suc n) some = let e : suc n - 1 ≡ n = omega arith in ap (λ (k : ℕ). span_end (span (get_or es k no_entry))) e
+  -- the last of the first n entries ends where they end, and an empty one where there is none
+  pub entries_end : span no_entry ≡ no_span → (es : List Entry) (n : ℕ) → span_end (span (get_or (take n es) (n - 1) no_entry)) ≡ end_of span es n
+  entries_end none es zero = ap span_end none
+  entries_end none es (suc n) =
+      let e : suc n - 1 ≡ n = omega arith in
+      ap (λ (k : ℕ). span_end (span (get_or (take (suc n) es) k no_entry))) e ∙ ap (λ (x : Entry). span_end (span x)) (get_or-take (suc n) es n no_entry (omega arith))
 
   -- each entry ends within what all of them end within
   pub entry_within : (es : List Entry) (n : ℕ) → InOrder span es n → (k : ℕ) → k < n → span_end (span (get_or es k no_entry)) ≤ end_of span es n

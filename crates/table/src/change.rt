@@ -16,12 +16,8 @@ impl Table {
     {
         Table {
             entries: [Entry::default(); 128],
-            terms: [TermNode { kind: 0, number: 0 }; 4096],
-            types: [TypeNode {
-                kind: 0,
-                left: 0,
-                right: 0,
-            }; 4096],
+            terms: [TermNode::default(); 4096],
+            types: [TypeNode::default(); 4096],
             count: 0,
             open: false,
         }
@@ -70,9 +66,9 @@ impl Table {
     pub fn dismiss(&mut self)
         ensures { view self.new ≡ dismissed (view self.old) }
     {
-        let mut next = *self;
-        next.open = false;
-        *self = next;
+        let mut kept = *self;
+        kept.open = false;
+        *self = kept;
     }
 
     // Drops the last row, if there is one.

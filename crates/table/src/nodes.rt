@@ -1,14 +1,13 @@
 // Rows of nodes: read, and copied into a memory.
-ghost use Rattle.std.specs.Prelude.{◌≡◌, ◌+◌, ◌<◌, ◌≤◌, length, slice_get};
-ghost use Rattle.std.specs.Option.{UnwrapsOrElse};
-ghost use Rattle.std.proofs.Math.Seq.{paste};
-ghost use Rattle.table.specs.Nodes.{overlaid};
+ghost use Rattle.std.specs.Prelude.{◌≡◌, ◌+◌, ◌<◌, ◌≤◌, length, slice_index_or};
+ghost use Rattle.table.specs.Nodes.{overlaid, Written};
 
 use crate::entry::Span;
 
 // Node `i` of a row, the zero node where there is none.
 pub fn node_at<N: Copy + Default>(row: &[N], i: u16) -> N
-    ensures { UnwrapsOrElse (slice_get row.now i) N.is_default result }
+    ensures there { i < length row.now → (d : N) → result ≡ slice_index_or row.now i d }
+    ensures past { length row.now ≤ i → N.is_default result }
 {
     row.get(i as usize).copied().unwrap_or_default()
 }
@@ -25,8 +24,7 @@ pub fn overlay<N: Copy>(row: &[N], out: &mut [N])
 pub(crate) fn write<N: Copy>(row: &[N], start: u16, memory: &mut [N]) -> Span
     requires room { start + length row.now ≤ length memory.old }
     requires few { length row.now < 65536 }
-    ensures written { memory.new ≡ paste memory.old start row.now (length row.now) }
-    ensures stands { result ≡ record { start = start; length = length row.now } }
+    ensures { Written row.now memory.old memory.new start result }
 {
     let at = start as usize;
     memory[at..at + row.len()].copy_from_slice(row);

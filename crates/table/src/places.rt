@@ -1,7 +1,7 @@
 // Where the rows of a table stand, and how far they reach.
-ghost use Rattle.std.specs.Prelude.{◌≡◌, ◌<◌, ◌≤◌, length, take, Decides, is_some, unwrap_or};
+ghost use Rattle.std.specs.Prelude.{◌≡◌, ◌<◌, ◌≤◌, length, Decides, is_some, unwrap_or};
 ghost use Rattle.table.specs.Entries.{in_use, no_entry};
-ghost use Rattle.table.specs.Places.{Places};
+ghost use Rattle.table.specs.Places.{entries_in_use, Ends, Places};
 ghost use Rattle.table.specs.View.{view, kept, term_nodes, list_nodes};
 
 use crate::entry::Entry;
@@ -21,9 +21,16 @@ impl Table {
 
     // The entries of all rows: the candidate's is the last.
     fn rows(&self) -> &[Entry]
-        ensures { result.now ≡ take (in_use self.now.count self.now.«open») self.now.entries }
+        ensures { result.now ≡ entries_in_use self.now }
     {
         &self.entries[..self.in_use() as usize]
+    }
+
+    // Where the last row stands, if there is one.
+    fn last(&self) -> Option<Entry>
+        ensures { Ends self.now (unwrap_or result no_entry) }
+    {
+        self.rows().last().copied()
     }
 
     // The nodes that the terms of all rows have together.
@@ -31,7 +38,7 @@ impl Table {
         ensures nodes { result ≡ term_nodes (view self.now) }
         ensures within { result ≤ 4096 }
     {
-        self.rows().last().map_or(0, |last| last.term.end()) as u16
+        self.last().unwrap_or_default().term.end() as u16
     }
 
     // The nodes that the type lists of all rows have together.
@@ -39,7 +46,7 @@ impl Table {
         ensures nodes { result ≡ list_nodes (view self.now) }
         ensures within { result ≤ 4096 }
     {
-        self.rows().last().map_or(0, |last| last.list.end()) as u16
+        self.last().unwrap_or_default().list.end() as u16
     }
 
     // Where row `k` stands, if there is one: the candidate's number is the number of rows filed.
