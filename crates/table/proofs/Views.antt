@@ -1,8 +1,9 @@
 -- The rows of a table by its entries.
-use Rattle.std.proofs.Common.{◌≡◌, ℕ, suc, ◌+◌, ◌-◌, ◌<◌, ◌≤◌, Bool, true, false, List, [], ◌++◌, map, length, get_or, slice_get, unwrap_or, take, sym, refl, ap, ◌∙◌, subst, ⊎_elim, arith}
+use Rattle.std.proofs.Common.{◌≡◌, ℕ, suc, ◌+◌, ◌-◌, ◌<◌, ◌≤◌, Bool, true, false, List, ◌++◌, map, length, get_or, slice_get, unwrap_or, take, sym, refl, ap, ◌∙◌, subst, ⊎_elim, arith}
 use Rattle.std.proofs.Math.ListN.{get_or-map}
-use Rattle.std.proofs.lemmas.List.{append-nil, length-map, length-take-le, map_more, get_or-take, get_or_past, get_or_append_left}
+use Rattle.std.proofs.lemmas.List.{append-nil, length-map, length-take-le, map_more, get_or-take, get_or_past}
 use Rattle.std.proofs.lemmas.Bool.{cases_lt}
+use Rattle.std.proofs.lemmas.Grind.{common_steps}
 use Rattle.std.proofs.lemmas.Option.{unwrap_or-slice_get}
 use Rattle.table.specs.declared.entry.Entry.{Entry}
 use Rattle.table.specs.declared.entry.Span.{Span}
@@ -11,8 +12,8 @@ use Rattle.table.specs.Rows.{Row, no_row, Proper}
 use Rattle.table.specs.Entries.{no_entry, no_span, row_at, in_use, span_end, end_of, InOrder, term_span, list_span}
 use Rattle.table.specs.View.{view, candidate_if, held, is_held, kept, kept_row, total, term_nodes, list_nodes, AllProper}
 use Rattle.table.specs.Places.{entries_in_use, Ends, Places}
-use Rattle.table.specs.Filed.{filed_list, filed_lawful, rows_long}
-use Rattle.table.proofs.Ends.{part_length, entry_within, entries_end, total_ends}
+use Rattle.table.specs.Filed.{filed_list, filed_lawful}
+use Rattle.table.proofs.Ends.{entry_within, entries_end, total_ends}
 use Rattle.table.proofs.Passing.{row_proper}
 
 rows_and_candidate : (f : Entry → Row) (es : List Entry) (n : ℕ) (b : Bool) → in_use n b ≤ length es → map f (take n es) ++ held (candidate_if b (f (get_or es n no_entry))) ≡ map f (take (in_use n b) es)
@@ -61,12 +62,12 @@ module _ (t : Table) where
   pub term_nodes_end : term_nodes (view t) ≡ end_of term_span t.entries all
   term_nodes_end =
       nodes_end term_span t.terms_order t.terms_within (λ r. length r.term)
-      (λ k h. part_length (get_or t.entries k no_entry).term.start (get_or t.entries k no_entry).term.length t.terms (omega (arith, entry_fits term_span t.terms_order t.terms_within k h, t.terms_long)))
+      (λ k h. (let fits = entry_fits term_span t.terms_order t.terms_within k h in let long = t.terms_long in grind (arith, common_steps)))
 
   pub list_nodes_end : list_nodes (view t) ≡ end_of list_span t.entries all
   list_nodes_end =
       nodes_end list_span t.lists_order t.lists_within (λ r. length r.list)
-      (λ k h. part_length (get_or t.entries k no_entry).list.start (get_or t.entries k no_entry).list.length t.types (omega (arith, entry_fits list_span t.lists_order t.lists_within k h, t.types_long)))
+      (λ k h. (let fits = entry_fits list_span t.lists_order t.lists_within k h in let long = t.types_long in grind (arith, common_steps)))
 
   -- the last entry ends where all rows end, and where there are no rows the empty one does
   pub ends_last : Ends t (unwrap_or (slice_get (entries_in_use t) (length (entries_in_use t) - 1)) no_entry)
@@ -91,13 +92,6 @@ module _ (t : Table) where
       let lt : k < all = omega (arith, kept_long) in
       let is = kept_at k ∙ ap (row_at t.terms t.types) (get_or-take all t.entries k no_entry lt) in
       subst (Proper k) (sym is) (row_proper k (row_at t.terms t.types (get_or t.entries k no_entry)) (t.rows_pass k lt))
-
-  -- a filed row by its number among all
-  pub kept_filed : (k : ℕ) → k < t.count → kept_row (view t) k ≡ get_or (view t).rows k no_row
-  kept_filed k h = get_or_append_left (view t).rows (held (view t).candidate) no_row k (omega (arith, rows_long t))
-
-  pub filed_past : (k : ℕ) → t.count ≤ k → filed_list t k ≡ []
-  filed_past k h = ap (λ (r : Row). r.list) (get_or_past (view t).rows k no_row (omega (arith, rows_long t)))
 
   pub filed_few : (k : ℕ) → length (filed_list t k) ≤ 4096
   filed_few k =
