@@ -5,6 +5,7 @@ use Rattle.std.proofs.lemmas.Bool.{cases_eq}
 use Rattle.std.proofs.lemmas.List.Edits.{length-paste}
 use Rattle.term.specs.declared.TermNode.{TermNode}
 use Rattle.types.specs.declared.TypeNode.{TypeNode}
+use Rattle.std.specs.Bool.{then_some}
 use Rattle.table.specs.declared.entry.Entry.{Entry}
 use Rattle.table.specs.declared.entry.Span.{Span}
 use Rattle.table.specs.declared.table.Table.{Table}
@@ -12,7 +13,7 @@ use Rattle.table.specs.Rows.{Row, row, Proper}
 use Rattle.table.specs.WellFormed.{row_passes}
 use Rattle.table.specs.Entries.{no_entry, part, row_at, in_use, end_of, InOrder, RowsPass, term_span, list_span}
 use Rattle.table.specs.Nodes.{Written}
-use Rattle.table.specs.View.{view, candidate_if, is_held, term_nodes, list_nodes, with_candidate, filed, withdrawn}
+use Rattle.table.specs.View.{view, is_held, term_nodes, list_nodes, with_candidate, filed, withdrawn}
 use Rattle.table.specs.Filed.{rows_long}
 use Rattle.table.proofs.Ends.{part_before, part_written, ends_rise, entry_within, fewer_in_order, order_set, end_added, rows_alike}
 use Rattle.table.proofs.Passing.{proper_row}
@@ -147,9 +148,9 @@ module _ (t : Table) (term : List TermNode) (list : List TypeNode) (terms : List
         rows_pass = rows_pass;
       }
 
-  pub put_view : record { rows = map (row_at terms types) (take t.count new_entries); candidate = candidate_if true (row_at terms types (get_or new_entries t.count no_entry)) } ≡ with_candidate (view t) (row term list)
+  pub put_view : record { rows = map (row_at terms types) (take t.count new_entries); candidate = then_some true (row_at terms types (get_or new_entries t.count no_entry)) } ≡ with_candidate (view t) (row term list)
   put_view =
-      ap₂ (λ (rs : List Row) (r : Row). record { rows = rs; candidate = candidate_if true r })
+      ap₂ (λ (rs : List Row) (r : Row). record { rows = rs; candidate = then_some true r })
       (rows_alike (row_at terms types) (row_at t.terms t.types) new_entries t.entries t.count (omega (arith, length-set t.entries t.count e, within)) (omega (arith, within)) row_stays)
       row_new
 
@@ -158,7 +159,7 @@ module _ (t : Table) where
   filed_view n e =
       ap (λ (rs : List Row). record { rows = rs; candidate = None }) (ap (λ (m : ℕ). map (row_at t.terms t.types) (take m t.entries)) e ∙ sym (kept_is t))
 
-  pub withdrawn_view : (m : ℕ) → m ≡ t.count - 1 → is_held (view t).candidate ≡ false → record { rows = map (row_at t.terms t.types) (take m t.entries); candidate = candidate_if t.«open» (row_at t.terms t.types (get_or t.entries m no_entry)) } ≡ withdrawn (view t)
+  pub withdrawn_view : (m : ℕ) → m ≡ t.count - 1 → is_held (view t).candidate ≡ false → record { rows = map (row_at t.terms t.types) (take m t.entries); candidate = then_some t.«open» (row_at t.terms t.types (get_or t.entries m no_entry)) } ≡ withdrawn (view t)
   withdrawn_view m e free =
       let long = rows_long t in
       let last : m ≡ length (view t).rows - 1 = omega arith in
@@ -166,7 +167,7 @@ module _ (t : Table) where
       (ap (map (row_at t.terms t.types)) (sym (take-take m t.count t.entries (omega arith)))
       ∙ sym (take-map (row_at t.terms t.types) m (take t.count t.entries))
       ∙ ap (λ (n : ℕ). take n (view t).rows) last)
-      (ap (λ (b : Bool). candidate_if b (row_at t.terms t.types (get_or t.entries m no_entry))) (sym (held_if t.«open» (row_at t.terms t.types (get_or t.entries t.count no_entry))) ∙ free))
+      (ap (λ (b : Bool). then_some b (row_at t.terms t.types (get_or t.entries m no_entry))) (sym (held_if t.«open» (row_at t.terms t.types (get_or t.entries t.count no_entry))) ∙ free))
 
 pub fewer_in_use : (n m : ℕ) (b : Bool) → m ≤ n → in_use m b ≤ in_use n b
 fewer_in_use n m true h = omega arith

@@ -5,22 +5,23 @@ use Rattle.std.proofs.lemmas.List.{append-nil, length-map, length-take-le, map_m
 use Rattle.std.proofs.lemmas.Bool.{cases_lt}
 use Rattle.std.proofs.lemmas.Grind.{common_steps}
 use Rattle.std.proofs.lemmas.Option.{unwrap_or-slice_get}
+use Rattle.std.specs.Bool.{then_some}
 use Rattle.table.specs.declared.entry.Entry.{Entry}
 use Rattle.table.specs.declared.entry.Span.{Span}
 use Rattle.table.specs.declared.table.Table.{Table}
 use Rattle.table.specs.Rows.{Row, no_row, Proper}
 use Rattle.table.specs.Entries.{no_entry, no_span, row_at, in_use, span_end, end_of, InOrder, term_span, list_span}
-use Rattle.table.specs.View.{view, candidate_if, held, is_held, kept, kept_row, total, term_nodes, list_nodes, AllProper}
+use Rattle.table.specs.View.{view, held, is_held, kept, kept_row, total, term_nodes, list_nodes, AllProper}
 use Rattle.table.specs.Places.{entries_in_use, Ends, Places}
 use Rattle.table.specs.Filed.{filed_list, filed_lawful}
 use Rattle.table.proofs.Ends.{entry_within, entries_end, total_ends}
 use Rattle.table.proofs.Passing.{row_proper}
 
-rows_and_candidate : (f : Entry → Row) (es : List Entry) (n : ℕ) (b : Bool) → in_use n b ≤ length es → map f (take n es) ++ held (candidate_if b (f (get_or es n no_entry))) ≡ map f (take (in_use n b) es)
+rows_and_candidate : (f : Entry → Row) (es : List Entry) (n : ℕ) (b : Bool) → in_use n b ≤ length es → map f (take n es) ++ held (then_some b (f (get_or es n no_entry))) ≡ map f (take (in_use n b) es)
 rows_and_candidate f es n false h = append-nil (map f (take n es))
 rows_and_candidate f es n true h = let e : n + 1 ≡ suc n = omega arith in sym (map_more f es n no_entry h) ∙ ap (λ (m : ℕ). map f (take m es)) e
 
-pub held_if : (b : Bool) (r : Row) → is_held (candidate_if b r) ≡ b
+pub held_if : (b : Bool) (r : Row) → is_held (then_some b r) ≡ b
 held_if true r = refl
 held_if false r = refl
 
