@@ -32,24 +32,12 @@ impl Table {
         requires proper { Proper (length (view self.old).rows) (row term.now list.now) }
         ensures { view self.new ≡ with_candidate (view self.old) (row term.now list.now) }
     {
-        let Table {
-            mut entries,
-            mut terms,
-            mut types,
-            count,
-            open: _,
-        } = *self;
-        entries[count as usize] = Entry {
-            term: write(term, self.used_terms(), &mut terms),
-            list: write(list, self.used_types(), &mut types),
-        };
-        *self = Table {
-            entries,
-            terms,
-            types,
-            count,
-            open: true,
-        };
+        let mut next = *self;
+        let term = write(term, self.used_terms(), &mut next.terms);
+        let list = write(list, self.used_types(), &mut next.types);
+        next.entries[self.count as usize] = Entry { term, list };
+        next.open = true;
+        *self = next;
     }
 
     // Files the candidate, if there is one: it becomes the last row.
