@@ -3,7 +3,7 @@ ghost use Rattle.std.specs.Prelude.{◌≡◌, ◌+◌, ◌≤◌, length};
 ghost use Rattle.table.specs.Entries.{part};
 
 // `length` nodes of a memory from `start` on.
-#[derive(Clone, Copy, Debug, PartialEq, Default)]
+#[derive(Clone, Copy, Debug, Default, PartialEq, Eq)]
 pub struct Span {
     pub start: u16,
     pub length: u16,
@@ -27,7 +27,7 @@ impl Span {
 }
 
 // Where its term stands in the one memory, and its type list in the other.
-#[derive(Clone, Copy, Debug, PartialEq, Default)]
+#[derive(Clone, Copy, Debug, Default, PartialEq, Eq)]
 pub struct Entry {
     pub term: Span,
     pub list: Span,

@@ -7,7 +7,8 @@ use term::TermNode;
 use types::TypeNode;
 
 // The first `count` entries are filed; if it is open, the next one is the candidate. Each entry's nodes begin where those
-// of the entry before it end.
+// of the entry before it end. Arrays and a count, no `ArrayVec`: the table is `Copy`, so that it can be copied out, changed
+// and written back whole.
 #[derive(Clone, Copy)]
 pub struct Table {
     pub(crate) entries: [Entry; 128],
