@@ -9,6 +9,7 @@ use copy::Source;
 use types::TypeNode;
 
 // The lists of a catalogue's entries.
+#[derive_where(Clone, Copy)]
 pub struct Entries<'a, C: Catalogue> {
     pub catalogue: &'a C,
 }

@@ -3,4 +3,3 @@ pub mod Passing
 pub mod Ends
 pub mod Views
 pub mod Changes
-pub mod Readings

@@ -3,6 +3,7 @@ use Rattle.std.proofs.Common.{◌≡◌, ℕ, zero, suc, Bool, true, false, eqb,
 use Rattle.std.proofs.lemmas.List.{append-nil, append_assoc}
 use Rattle.std.proofs.lemmas.Bool.{false≢true, ltb-true, eqb-true, lt-ltb}
 use Rattle.term.specs.Terms.{Term, variable, abstraction, application, primitive, reference, node, prefix}
+use Rattle.term.specs.Symbols.{of_kind}
 use Rattle.term.specs.declared.TermNode.{TermNode}
 use Rattle.types.proofs.Tested.{both}
 use Rattle.theory.specs.Closed.{Closed, Below}
@@ -53,7 +54,7 @@ module _ (k d : ℕ) (ds : List ℕ) (xs : List TermNode) where
       }
 
   module _ (leaf one two : Bool) (at_leaf : leaf ≡ true → Forest k ds xs) (at_one : one ≡ true → Forest k (suc d ∷ ds) xs) (at_two : two ≡ true → Forest k (d ∷ d ∷ ds) xs) where
-    node_first : (kind n : ℕ) → node_reads kind n k d leaf one two ≡ true → Forest k (d ∷ ds) (node kind n ∷ xs)
+    node_first : (kind n : ℕ) → node_reads (of_kind kind n) n k d leaf one two ≡ true → Forest k (d ∷ ds) (node kind n ∷ xs)
     node_first zero n e = let p = both_parts (ltb n d) leaf e in leaf_first (variable n) (ltb-true n d p.0) tt (at_leaf p.1)
     node_first (suc zero) n e =
         let p = both_parts (eqb n 0) one e in

@@ -1,5 +1,7 @@
 -- A table seen as filed rows and a candidate.
-use Rattle.std.specs.Prelude.{ℕ, ◌+◌, ◌-◌, ◌<◌, Bool, true, false, List, [], ◌∷◌, ◌++◌, map, length, take, Some, None, Option, slice_index_or}
+use Rattle.std.specs.Prelude.{ℕ, ◌+◌, ◌-◌, ◌<◌, Bool, List, [], ◌∷◌, ◌++◌, map, length, take, Some, None, Option, is_some, slice_index_or}
+use Rattle.std.specs.Bool.{then_some}
+use Rattle.std.specs.Option.{option_to_list}
 use Rattle.table.specs.declared.table.Table.{Table}
 use Rattle.table.specs.Rows.{Row, no_row, Proper}
 use Rattle.table.specs.Entries.{no_entry, row_at}
@@ -8,24 +10,18 @@ pub record View : Type 0 where
   pub rows : List Row
   pub candidate : Option Row
 
-abbrev pub candidate_if : Bool → Row → Option Row
-candidate_if true r = Some r
-candidate_if false r = None
-
 abbrev pub view : Table → View
 view t =
     record {
       rows = map (row_at t.terms t.types) (take t.count t.entries);
-      candidate = candidate_if t.«open» (row_at t.terms t.types (slice_index_or t.entries t.count no_entry));
+      candidate = then_some t.«open» (row_at t.terms t.types (slice_index_or t.entries t.count no_entry));
     }
 
 abbrev pub held : Option Row → List Row
-held None = []
-held (Some r) = r ∷ []
+held o = option_to_list o
 
 abbrev pub is_held : Option Row → Bool
-is_held None = false
-is_held (Some r) = true
+is_held o = is_some o
 
 -- all rows by number: those filed, and behind them the candidate
 abbrev pub kept : View → List Row

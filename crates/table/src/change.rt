@@ -4,7 +4,7 @@ ghost use Rattle.table.specs.Rows.{row, Proper};
 ghost use Rattle.table.specs.View.{view, empty, is_held, term_nodes, list_nodes, with_candidate, filed, dismissed, withdrawn};
 
 use crate::entry::Entry;
-use crate::nodes::copy_nodes;
+use crate::nodes::write;
 use crate::table::Table;
 use term::TermNode;
 use types::TypeNode;
@@ -15,18 +15,9 @@ impl Table {
         ensures { view result ≡ empty }
     {
         Table {
-            entries: [Entry {
-                term_start: 0,
-                term_length: 0,
-                list_start: 0,
-                list_length: 0,
-            }; 128],
-            terms: [TermNode { kind: 0, number: 0 }; 4096],
-            types: [TypeNode {
-                kind: 0,
-                left: 0,
-                right: 0,
-            }; 4096],
+            entries: [Entry::default(); 128],
+            terms: [TermNode::default(); 4096],
+            types: [TypeNode::default(); 4096],
             count: 0,
             open: false,
         }
@@ -41,36 +32,20 @@ impl Table {
         requires proper { Proper (length (view self.old).rows) (row term.now list.now) }
         ensures { view self.new ≡ with_candidate (view self.old) (row term.now list.now) }
     {
-        let term_start = self.used_terms();
-        let list_start = self.used_types();
-        let mut terms = self.terms;
-        copy_nodes(term, 0, &mut terms, term_start as usize, term.len());
-        let mut types = self.types;
-        copy_nodes(list, 0, &mut types, list_start as usize, list.len());
-        let mut entries = self.entries;
-        let count = self.count;
-        entries[count as usize] = Entry {
-            term_start,
-            term_length: term.len() as u16,
-            list_start,
-            list_length: list.len() as u16,
-        };
-        *self = Table {
-            entries,
-            terms,
-            types,
-            count,
-            open: true,
-        };
+        let mut next = *self;
+        let term = write(term, self.used_terms(), &mut next.terms);
+        let list = write(list, self.used_types(), &mut next.types);
+        next.entries[self.count as usize] = Entry { term, list };
+        next.open = true;
+        *self = next;
     }
 
     // Files the candidate, if there is one: it becomes the last row.
     pub fn file(&mut self)
         ensures { view self.new ≡ filed (view self.old) }
     {
-        let rows = self.in_use();
         let mut next = *self;
-        next.count = rows;
+        next.count = self.in_use();
         next.open = false;
         *self = next;
     }
@@ -89,11 +64,8 @@ impl Table {
         requires { is_held (view self.old).candidate ≡ false }
         ensures { view self.new ≡ withdrawn (view self.old) }
     {
-        if self.count == 0 {
-            return;
-        }
         let mut next = *self;
-        next.count -= 1;
+        next.count = self.count.saturating_sub(1);
         *self = next;
     }
 }

@@ -3,7 +3,7 @@
 
 mod change;
 pub mod entry;
-mod nodes;
+pub mod nodes;
 mod places;
 mod read;
 pub mod source;

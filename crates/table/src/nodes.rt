@@ -1,29 +1,35 @@
-// Copies of nodes from one memory into another.
-ghost use Rattle.std.specs.Prelude.{◌≡◌, ◌+◌, ◌≤◌, length, drop};
-ghost use Rattle.std.proofs.Math.Seq.{paste};
-ghost use Rattle.table.specs.Entries.{part};
-ghost use Rattle.table.specs.Nodes.{overlaid};
+// Rows of nodes: read, and copied into a memory.
+ghost use Rattle.std.specs.Prelude.{◌≡◌, ◌+◌, ◌<◌, ◌≤◌, length, slice_index_or};
+ghost use Rattle.table.specs.Nodes.{overlaid, Written};
 
-// Copies `n` nodes that begin at `start` to the place `at` of the other memory.
-pub(crate) fn copy_nodes<N: Copy>(from: &[N], start: usize, to: &mut [N], at: usize, n: usize)
-    requires there { start + n ≤ length from.now }
-    requires room { at + n ≤ length to.old }
-    ensures { to.new ≡ paste to.old at (drop start from.now) n }
+use crate::entry::Span;
+
+// Node `i` of a row, the zero node where there is none.
+pub fn node_at<N: Copy + Default>(row: &[N], i: u16) -> N
+    ensures there { i < length row.now → (d : N) → result ≡ slice_index_or row.now i d }
+    ensures past { length row.now ≤ i → N.is_default result }
 {
-    for i in 0..n {
-        to[at + i] = from[start + i];
-    }
+    row.get(i as usize).copied().unwrap_or_default()
 }
 
-// Copies the `size` nodes that begin at `start` to the front of `out`, as many of them as it has room for.
-pub(crate) fn copy_part<N: Copy>(from: &[N], start: usize, size: usize, out: &mut [N])
-    requires { start + size ≤ length from.now }
-    ensures { out.new ≡ overlaid (part start size from.now) out.old }
+// Copies a row to the front of `out`, as much of it as there is room for.
+pub fn overlay<N: Copy>(row: &[N], out: &mut [N])
+    ensures { out.new ≡ overlaid row.now out.old }
 {
-    let room = out.len();
-    if size <= room {
-        copy_nodes(from, start, out, 0, size);
-    } else {
-        copy_nodes(from, start, out, 0, room);
+    let n = row.len().min(out.len());
+    out[..n].copy_from_slice(&row[..n]);
+}
+
+// Writes a row into a memory from `start` on, and answers where it then stands.
+pub(crate) fn write<N: Copy>(row: &[N], start: u16, memory: &mut [N]) -> Span
+    requires room { start + length row.now ≤ length memory.old }
+    requires few { length row.now < 65536 }
+    ensures { Written row.now memory.old memory.new start result }
+{
+    let at = start as usize;
+    memory[at..at + row.len()].copy_from_slice(row);
+    Span {
+        start,
+        length: row.len() as u16,
     }
 }

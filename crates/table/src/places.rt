@@ -1,8 +1,8 @@
 // Where the rows of a table stand, and how far they reach.
-ghost use Rattle.std.specs.Prelude.{◌≡◌, ◌≤◌};
-ghost use Rattle.table.specs.Entries.{in_use};
-ghost use Rattle.table.specs.Places.{Places};
-ghost use Rattle.table.specs.View.{view, term_nodes, list_nodes};
+ghost use Rattle.std.specs.Prelude.{◌≡◌, ◌<◌, ◌≤◌, length, Decides, is_some, unwrap_or};
+ghost use Rattle.table.specs.Entries.{in_use, no_entry};
+ghost use Rattle.table.specs.Places.{entries_in_use, Ends, Places};
+ghost use Rattle.table.specs.View.{view, kept, term_nodes, list_nodes};
 
 use crate::entry::Entry;
 use crate::table::Table;
@@ -19,17 +19,26 @@ impl Table {
         }
     }
 
+    // The entries of all rows: the candidate's is the last.
+    fn rows(&self) -> &[Entry]
+        ensures { result.now ≡ entries_in_use self.now }
+    {
+        &self.entries[..self.in_use() as usize]
+    }
+
+    // Where the last row stands, if there is one.
+    fn last(&self) -> Option<Entry>
+        ensures { Ends self.now (unwrap_or result no_entry) }
+    {
+        self.rows().last().copied()
+    }
+
     // The nodes that the terms of all rows have together.
     pub fn used_terms(&self) -> u16
         ensures nodes { result ≡ term_nodes (view self.now) }
         ensures within { result ≤ 4096 }
     {
-        let n = self.in_use();
-        if n == 0 {
-            return 0;
-        }
-        let last = self.entries[(n - 1) as usize];
-        last.term_start + last.term_length
+        self.last().unwrap_or_default().term.end() as u16
     }
 
     // The nodes that the type lists of all rows have together.
@@ -37,27 +46,14 @@ impl Table {
         ensures nodes { result ≡ list_nodes (view self.now) }
         ensures within { result ≤ 4096 }
     {
-        let n = self.in_use();
-        if n == 0 {
-            return 0;
-        }
-        let last = self.entries[(n - 1) as usize];
-        last.list_start + last.list_length
+        self.last().unwrap_or_default().list.end() as u16
     }
 
-    // Where row `k` stands: the candidate's number is the number of rows filed. An entry of zeros where there is no row.
-    pub(crate) fn place(&self, k: u16) -> Entry
-        ensures { Places self.now k result }
+    // Where row `k` stands, if there is one: the candidate's number is the number of rows filed.
+    pub(crate) fn place(&self, k: u16) -> Option<Entry>
+        ensures there { Decides (is_some result) (k < length (kept (view self.now))) }
+        ensures stands { Places self.now k (unwrap_or result no_entry) }
     {
-        if k < self.in_use() {
-            self.entries[k as usize]
-        } else {
-            Entry {
-                term_start: 0,
-                term_length: 0,
-                list_start: 0,
-                list_length: 0,
-            }
-        }
+        self.rows().get(k as usize).copied()
     }
 }

@@ -1,15 +1,20 @@
 // The filed type lists as a source of copies.
+ghost use Rattle.std.specs.Prelude.{◌≡◌};
 ghost use Rattle.table.specs.Filed.{filed_list, filed_lawful};
 
+use crate::nodes::node_at;
 use crate::table::Table;
 use copy::Source;
 use types::TypeNode;
 
-const NO_NODE: TypeNode = TypeNode {
-    kind: 0,
-    left: 0,
-    right: 0,
-};
+impl Table {
+    // The type list of filed row `k`, without nodes where there is no such row.
+    fn filed(&self, k: u16) -> &[TypeNode]
+        ensures { result.now ≡ filed_list self.now k }
+    {
+        if k < self.count { self.list(k) } else { &[] }
+    }
+}
 
 // The candidate's list is not among them.
 impl Source for Table {
@@ -18,17 +23,10 @@ impl Source for Table {
     ghost lawful = { λ t k h. filed_lawful t k h };
 
     fn nodes(&self, k: u16) -> u16 {
-        if k < self.count {
-            self.list_length(k)
-        } else {
-            0
-        }
+        self.filed(k).len() as u16
     }
 
     fn node(&self, k: u16, i: u16) -> TypeNode {
-        if k >= self.count {
-            return NO_NODE;
-        }
-        self.list_node(k, i)
+        node_at(self.filed(k), i)
     }
 }

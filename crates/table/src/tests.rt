@@ -1,4 +1,5 @@
 // A formula that comes and goes.
+use crate::nodes::node_at;
 use crate::table::Table;
 use copy::Source;
 use term::TermNode;
@@ -34,7 +35,7 @@ fn what_is_freed_serves_again(rt: HostRuntime) {
     assert_eq!(rt; table.used_terms(), 2);
     table.file();
     assert_eq!(rt; table.count(), 1);
-    assert_eq!(rt; table.list_node(0, 1), ARROW);
+    assert_eq!(rt; node_at(table.list(0), 1), ARROW);
     table.withdraw();
     assert_eq!(rt; table.used_types(), 0);
     assert_eq!(rt; table.count(), 0);
@@ -43,8 +44,8 @@ fn what_is_freed_serves_again(rt: HostRuntime) {
 #[test]
 fn a_candidate_is_no_source(rt: HostRuntime) {
     let mut table = with_identity();
-    assert_eq!(rt; table.list_length(0), 2);
+    assert_eq!(rt; table.list(0).len(), 2);
     assert_eq!(rt; table.nodes(0), 0);
     table.dismiss();
-    assert_eq!(rt; table.list_length(0), 0);
+    assert_eq!(rt; table.list(0).len(), 0);
 }

@@ -1,9 +1,11 @@
-use Rattle.std.proofs.Common.{arith}
-use Rattle.table.proofs.Views.{places_there, places_none}
+use Rattle.std.proofs.Common.{sym, ap, ◌∙◌, subst, unwrap_or, get_or, arith}
+use Rattle.table.specs.Entries.{no_entry}
+use Rattle.table.specs.Places.{Places}
+use Rattle.table.proofs.Views.{places_at}
 use Rattle.table.proofs.table.Table.place.Goals as goal
 
-pub returns-then-k-in_use : goal.returns-then-k-in_use
-returns-then-k-in_use c = places_there c.args.self.now c.args.k (omega (arith, c.in_use.ensures))
-
-pub returns-else-k-in_use : goal.returns-else-k-in_use
-returns-else-k-in_use c = places_none c.args.self.now c.args.k (omega (arith, c.in_use.ensures))
+pub returns-clause-stands : goal.returns-clause-stands
+returns-clause-stands c =
+    let t = c.args.self.now in
+    let e = ap (λ o. unwrap_or o no_entry) c.copied.ensures ∙ c.get.ensures.lookup.4 (omega arith) no_entry ∙ ap (λ es. get_or es c.args.k no_entry) c.rows.ensures in
+    subst (Places t c.args.k) (sym e) (places_at t c.args.k)
