@@ -59,9 +59,6 @@ impl<C: Catalogue> Book<C> {
         clear_terms(terms);
         clear_types(types);
         clear_numbers(numbers);
-        match opened {
-            Ok(number) => Ok(Ticket::new(number)),
-            Err(fault) => Err(fault),
-        }
+        opened.map(Ticket::new)
     }
 }
