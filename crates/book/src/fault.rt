@@ -42,16 +42,16 @@ pub enum BookFault {
     Check(CheckFault),
 }
 
-impl BookFault {
-    pub fn refusal(&self) -> Refusal
-        ensures { result ≡ says self.now }
-    {
-        match *self {
+impl From<BookFault> for Refusal {
+    ghost from_gives = { λ f r. r ≡ says f };
+
+    fn from(fault: BookFault) -> Refusal {
+        match fault {
             BookFault::Busy => Refusal::new(10, Layer::Book, 0),
             BookFault::Full => Refusal::new(11, Layer::Book, 0),
             BookFault::TooManyBytes => Refusal::new(12, Layer::Book, 0),
-            BookFault::Formula(fault) => fault.refusal(),
-            BookFault::Types(fault) => fault.refusal(),
+            BookFault::Formula(fault) => Refusal::from(fault),
+            BookFault::Types(fault) => Refusal::from(fault),
             BookFault::NoTermSpace => Refusal::new(33, Layer::Book, 0),
             BookFault::NoListSpace => Refusal::new(41, Layer::Book, 0),
             BookFault::NoCandidate => Refusal::new(60, Layer::Book, 0),
@@ -60,8 +60,8 @@ impl BookFault {
             BookFault::NotFiled => Refusal::new(70, Layer::Book, 0),
             BookFault::TooLong => Refusal::new(71, Layer::Book, 0),
             BookFault::NoLineRoom => Refusal::new(72, Layer::Book, 0),
-            BookFault::Derivation(fault) => fault.refusal(),
-            BookFault::Check(fault) => fault.refusal(),
+            BookFault::Derivation(fault) => Refusal::from(fault),
+            BookFault::Check(fault) => Refusal::from(fault),
         }
     }
 }

@@ -14,6 +14,7 @@ use crate::outcome::Outcome;
 use catalogue::interface::Catalogue;
 use lines::{LINE_ROOM, write_filed, write_refused};
 use printing::{ShowFault, show as show_list};
+use refusal::Refusal;
 
 impl<C: Catalogue> Book<C> {
     // Writes the type of a formula, filed or the candidate, and answers the text's length; what lies beyond it in `out`,
@@ -49,7 +50,7 @@ impl<C: Catalogue> Book<C> {
                 }
                 Ok(write_filed(number, self.table.list(number), out))
             }
-            Err(fault) => Ok(write_refused(fault.refusal(), out)),
+            Err(fault) => Ok(write_refused(Refusal::from(fault), out)),
         }
     }
 }

@@ -26,12 +26,8 @@ pub fn tell<C: Catalogue>(rt: &HostRuntime, book: &Book<C>, outcome: Outcome) ->
 
 // Prints a refusal.
 pub fn tell_fault(rt: &HostRuntime, fault: BookFault) -> io::Result<()> {
-    let Refusal {
-        number,
-        layer: _,
-        place,
-    } = fault.refusal();
-    println!(rt; "refused {number} at {place}")
+    let refusal = Refusal::from(fault);
+    println!(rt; "{refusal}")
 }
 
 // Prints how long an answer is, or the refusal.

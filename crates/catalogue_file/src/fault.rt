@@ -20,11 +20,11 @@ pub enum FileFault {
     Repeated(usize),
 }
 
-impl FileFault {
-    pub fn refusal(&self) -> Refusal
-        ensures { result ≡ says self.now }
-    {
-        match *self {
+impl From<FileFault> for Refusal {
+    ghost from_gives = { λ f r. r ≡ says f };
+
+    fn from(fault: FileFault) -> Refusal {
+        match fault {
             FileFault::Length => Refusal::new(90, Layer::File, 0),
             FileFault::Count => Refusal::new(91, Layer::File, 0),
             FileFault::Gap => Refusal::new(92, Layer::File, 0),

@@ -10,6 +10,9 @@ ghost use Rattle.copy.specs.Copies.{IsVariable, First, StandsBelow, Noted, Fresh
 use graph::LINK;
 use types::{BASE, TypeNode, VARIABLE};
 
+pub mod load;
+pub mod nothing;
+
 // Lists of type nodes by number, as a catalogue and a table of kept lists have them.
 pub trait Source {
     ghost list: { Self → ℕ → List Record };

@@ -18,11 +18,11 @@ pub enum CheckFault {
     Step(usize),
 }
 
-impl CheckFault {
-    pub fn refusal(&self) -> Refusal
-        ensures { result ≡ says self.now }
-    {
-        match *self {
+impl From<CheckFault> for Refusal {
+    ghost from_gives = { λ f r. r ≡ says f };
+
+    fn from(fault: CheckFault) -> Refusal {
+        match fault {
             CheckFault::Length => Refusal::new(80, Layer::Book, 0),
             CheckFault::Unlawful => Refusal::new(81, Layer::Book, 0),
             CheckFault::Equal => Refusal::new(82, Layer::Book, 0),

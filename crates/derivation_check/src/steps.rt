@@ -10,6 +10,7 @@ ghost use Rattle.derivation_check.specs.Checking.{types, Placed, Judged};
 
 use crate::ends::{end_at, find_binder, find_ends};
 use copy::Source;
+use copy::load::load;
 use instance::fits;
 use term::TermNode;
 use types::{ARROW, MOST_NODES, TypeNode};
@@ -51,22 +52,6 @@ fn is_arrow(list: &[TypeNode], whole: u16, from: u16, to: u16) -> bool
         return false;
     }
     is_to(list, whole, to)
-}
-
-// Copies list `k` to the front of the memory; the answer is its length.
-fn load<S: Source>(source: &S, k: u16, memory: &mut [TypeNode]) -> usize
-    requires room { 4096 ≤ length memory.old }
-    ensures length { result ≡ length (S.list source.now k) }
-    ensures few { result ≤ 4096 }
-    ensures same { take result memory.new ≡ S.list source.now k }
-{
-    let n = source.nodes(k);
-    let mut i = 0;
-    while i < n {
-        memory[i as usize] = source.node(k, i);
-        i += 1;
-    }
-    n as usize
 }
 
 // Whether the type at a place is an instance of the type that list `k` means.

@@ -143,7 +143,7 @@ fn questions_in_order(rt: HostRuntime) {
     assert_eq!(rt; judged(&terms, &[base(0)], &[]), Err(CheckFault::Places));
     assert_eq!(rt; judged(&terms, &[base(0)], &[1]), Err(CheckFault::Places));
     assert_eq!(rt;
-        CheckFault::Step(7).refusal(),
+        Refusal::from(CheckFault::Step(7)),
         Refusal::new(84, Layer::Book, 7)
     );
 }

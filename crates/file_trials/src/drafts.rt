@@ -1,6 +1,7 @@
 // Catalogue files put together from the bytes of their entries.
 use catalogue_file::fault::FileFault;
 use catalogue_file::opening::open_file;
+use refusal::Refusal;
 use std::alloc::{AllocError, Global};
 use types::TypeNode;
 
@@ -78,7 +79,7 @@ pub fn fault_of(bytes: &[u8]) -> Option<FileFault> {
 // The number of a file's refusal, 0 where it is accepted.
 pub fn number_of(bytes: &[u8]) -> u16 {
     match fault_of(bytes) {
-        Some(fault) => fault.refusal().number,
+        Some(fault) => Refusal::from(fault).number,
         None => 0,
     }
 }

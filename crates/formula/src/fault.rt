@@ -20,12 +20,12 @@ pub enum FormulaFault {
     NotFiled(usize),
 }
 
-impl FormulaFault {
-    pub fn refusal(&self) -> Refusal
-        ensures { result ≡ says self.now }
-    {
-        match *self {
-            FormulaFault::Text(fault) => fault.refusal(),
+impl From<FormulaFault> for Refusal {
+    ghost from_gives = { λ f r. r ≡ says f };
+
+    fn from(fault: FormulaFault) -> Refusal {
+        match fault {
+            FormulaFault::Text(fault) => Refusal::from(fault),
             FormulaFault::TooManyNodes => Refusal::new(22, Layer::Formula, 0),
             FormulaFault::NoRoom => Refusal::new(23, Layer::Formula, 0),
             FormulaFault::Unknown(at) => Refusal::new(24, Layer::Formula, at),

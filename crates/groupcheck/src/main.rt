@@ -41,12 +41,8 @@ fn say_entry(rt: &HostRuntime, name: &[u8], text: &[u8]) -> io::Result<()> {
 }
 
 fn say_refusal(rt: &HostRuntime, fault: FileFault) -> io::Result<()> {
-    let Refusal {
-        number,
-        layer: _,
-        place,
-    } = fault.refusal();
-    println!(rt; "refused {number} at {place}")
+    let refusal = Refusal::from(fault);
+    println!(rt; "{refusal}")
 }
 
 fn list(rt: &HostRuntime, catalogue: FileCatalogue<'_>) -> io::Result<()> {

@@ -19,14 +19,14 @@ pub enum LineFault {
     TooLong,
 }
 
-impl LineFault {
-    pub fn refusal(&self) -> Refusal
-        ensures { result ≡ says self.now }
-    {
-        match *self {
+impl From<LineFault> for Refusal {
+    ghost from_gives = { λ f r. r ≡ says f };
+
+    fn from(fault: LineFault) -> Refusal {
+        match fault {
             LineFault::TooManyBytes => Refusal::new(12, Layer::Book, 0),
-            LineFault::Formula(fault) => fault.refusal(),
-            LineFault::Types(fault) => fault.refusal(),
+            LineFault::Formula(fault) => Refusal::from(fault),
+            LineFault::Types(fault) => Refusal::from(fault),
             LineFault::TooLong => Refusal::new(71, Layer::Book, 0),
         }
     }

@@ -31,12 +31,8 @@ fn say(rt: &HostRuntime, reply: Result<usize, LineFault>, out: &[u8]) -> io::Res
         }
         Err(LineFault::TooLong) => println!(rt; "too long"),
         Err(fault) => {
-            let Refusal {
-                number,
-                layer: _,
-                place,
-            } = fault.refusal();
-            println!(rt; "refused {number} at {place}")
+            let refusal = Refusal::from(fault);
+            println!(rt; "{refusal}")
         }
     }
 }

@@ -5,9 +5,10 @@ ghost use Rattle.paycheck.specs.Replies.{Types, Refused};
 
 use crate::fault::LineFault;
 use catalogue::builtin::Builtin;
+use copy::nothing::Nothing;
 use formula::reader::read;
 use printing::{ShowFault, show};
-use sources::{Entries, Nothing};
+use sources::Entries;
 use term::TermNode;
 use typer::type_term;
 use types::TypeNode;

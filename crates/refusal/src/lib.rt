@@ -1,11 +1,14 @@
 // A numbered refusal: what every layer's fault comes down to for the reader of an answer.
 #![tactic(auto)]
 
-ghost use Rattle.std.specs.Prelude.{◌≡◌};
+ghost use Rattle.std.specs.Prelude.{◌≡◌, Some};
 ghost use Rattle.refusal.specs.Saying.{saying};
+ghost use Rattle.refusal.specs.Text.{text};
+
+use std::fmt;
 
 // The layer that a refusal comes from.
-#[derive(Clone, Copy, Debug, PartialEq)]
+#[derive(Clone, Copy, Debug, PartialEq, Eq)]
 pub enum Layer {
     Text,
     Formula,
@@ -15,7 +18,7 @@ pub enum Layer {
 }
 
 // A refusal's number, the layer that it comes from, and the place that it speaks of.
-#[derive(Clone, Copy, Debug, PartialEq)]
+#[derive(Clone, Copy, Debug, PartialEq, Eq)]
 pub struct Refusal {
     pub number: u16,
     pub layer: Layer,
@@ -31,5 +34,16 @@ impl Refusal {
             layer,
             place,
         }
+    }
+}
+
+// `refused N at P`.
+impl fmt::Display for Refusal {
+    ghost output = { λ r. Some (text r) };
+
+    fn fmt<W: fmt::Write>(&self, f: &mut fmt::Formatter<W>) -> fmt::Result {
+        let number = self.number;
+        let place = self.place;
+        write!(f, "refused {number} at {place}")
     }
 }

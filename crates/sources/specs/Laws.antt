@@ -1,4 +1,4 @@
--- A list that a catalogue has is lawful, and where there are no lists there is none to be.
+-- A list that a catalogue has is lawful.
 use Rattle.std.specs.Prelude.{◌≡◌, ℕ, ◌<◌, List, [], length}
 use Rattle.std.proofs.Common.{ap, ⊎_elim, arith}
 use Rattle.std.proofs.lemmas.List.{get_or_past}
@@ -10,6 +10,3 @@ use Rattle.catalogue.specs.Entries.{Entry, no_entry, list_of, AllLawful}
 pub list_lawful : (es : List Entry) → AllLawful es → (k : ℕ) → 0 < length (list_of es k) → Lawful (list_of es k)
 list_lawful es a k h =
     ⊎_elim (λ lt. a k lt) (λ ge. let z : list_of es k ≡ [] = ap (λ (e : Entry). e.list) (get_or_past es k no_entry ge) in absurd (omega (arith, ap length z))) (cases_lt k (length es))
-
-pub none_lawful : 0 < length {A = TypeNode} [] → Lawful []
-none_lawful h = absurd (omega arith)

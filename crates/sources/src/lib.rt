@@ -1,9 +1,8 @@
 // Where the lists of type nodes come from that a term's primitives and references ask for.
 #![tactic(auto)]
 
-ghost use Rattle.std.specs.Prelude.{[]};
 ghost use Rattle.catalogue.specs.Entries.{list_of};
-ghost use Rattle.sources.specs.Laws.{list_lawful, none_lawful};
+ghost use Rattle.sources.specs.Laws.{list_lawful};
 
 use catalogue::interface::Catalogue;
 use copy::Source;
@@ -25,27 +24,5 @@ impl<'a, C: Catalogue> Source for Entries<'a, C> {
 
     fn node(&self, k: u16, i: u16) -> TypeNode {
         self.catalogue.node(k, i)
-    }
-}
-
-// No lists: nothing is kept.
-#[derive(Clone, Copy)]
-pub struct Nothing;
-
-impl Source for Nothing {
-    ghost list = { λ s k. [] };
-
-    ghost lawful = { λ s k h. none_lawful h };
-
-    fn nodes(&self, k: u16) -> u16 {
-        0
-    }
-
-    fn node(&self, k: u16, i: u16) -> TypeNode {
-        TypeNode {
-            kind: 0,
-            left: 0,
-            right: 0,
-        }
     }
 }

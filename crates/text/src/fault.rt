@@ -12,11 +12,11 @@ pub enum TextFault {
     Misplaced(usize),
 }
 
-impl TextFault {
-    pub fn refusal(&self) -> Refusal
-        ensures { result ≡ says self.now }
-    {
-        match *self {
+impl From<TextFault> for Refusal {
+    ghost from_gives = { λ f r. r ≡ says f };
+
+    fn from(fault: TextFault) -> Refusal {
+        match fault {
             TextFault::Stray(at) => Refusal::new(20, Layer::Text, at),
             TextFault::Misplaced(at) => Refusal::new(21, Layer::Text, at),
         }

@@ -22,7 +22,7 @@ fn outcome(text: &[u8], memory: &mut [TermNode]) -> Result<usize, (u16, usize)> 
                 number,
                 layer: _,
                 place,
-            } = fault.refusal();
+            } = Refusal::from(fault);
             Err((number, place))
         }
     }

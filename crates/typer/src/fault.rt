@@ -16,11 +16,11 @@ pub enum TypesFault {
     NoType,
 }
 
-impl TypesFault {
-    pub fn refusal(&self) -> Refusal
-        ensures { result ≡ says self.now }
-    {
-        match *self {
+impl From<TypesFault> for Refusal {
+    ghost from_gives = { λ f r. r ≡ says f };
+
+    fn from(fault: TypesFault) -> Refusal {
+        match fault {
             TypesFault::TooMuch => Refusal::new(30, Layer::Types, 0),
             TypesFault::NoTypeRoom => Refusal::new(31, Layer::Types, 0),
             TypesFault::NoNumberRoom => Refusal::new(32, Layer::Types, 0),
@@ -41,11 +41,11 @@ pub enum DeriveFault {
     NoType,
 }
 
-impl DeriveFault {
-    pub fn refusal(&self) -> Refusal
-        ensures { result ≡ derive_says self.now }
-    {
-        match *self {
+impl From<DeriveFault> for Refusal {
+    ghost from_gives = { λ f r. r ≡ derive_says f };
+
+    fn from(fault: DeriveFault) -> Refusal {
+        match fault {
             DeriveFault::NoTypeRoom => Refusal::new(73, Layer::Book, 0),
             DeriveFault::NoPlaceRoom => Refusal::new(74, Layer::Book, 0),
             DeriveFault::NoNumberRoom => Refusal::new(75, Layer::Book, 0),

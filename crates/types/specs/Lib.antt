@@ -1,2 +1,3 @@
 pub mod Types
 pub mod Lists
+pub mod Shapes

@@ -45,7 +45,7 @@ returns-in-Err g c =
     let v = view b.table in
     let es = g.C.Catalogue.entries b.catalogue in
     let room = length c.args.out.now in
-    let lined = subst (λ r. Lined (refused_line r) c.args.out.now c.write_refused.new.out c.write_refused.result) c.refusal.ensures c.write_refused.ensures in
+    let lined = subst (λ r. Lined (refused_line r) c.args.out.now c.write_refused.new.out c.write_refused.result) c.from.ensures c.write_refused.ensures in
     record {
       done = deals g.C.Catalogue.entries g.C.Catalogue.lawful b b _ refl refl (line_refused es v room c.args.outcome c.in-Err.fault c.in-Err.is c.if-out-lt-LINE_ROOM.false c.args.out.now c.write_refused.new.out c.write_refused.result lined);
       text = refusal_written es v room c.args.outcome c.in-Err.fault c.in-Err.is c.if-out-lt-LINE_ROOM.false c.args.out.now c.write_refused.new.out c.write_refused.result lined;
