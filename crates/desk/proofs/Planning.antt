@@ -3,8 +3,8 @@ use Rattle.std.proofs.Common.{◌≡◌, ℕ, ◌<◌, ◌≤◌, List, [], ◌�
 use Rattle.std.proofs.str.Laws.{order}
 use Rattle.book.specs.declared.dealing.Dealing.{Dealing}
 use Rattle.book.specs.declared.dealing.Dealing.TheVariants.{Submit, File}
-use Rattle.desk.specs.declared.cutting.Line.{Line}
-use Rattle.desk.specs.Lines.{Cut, Lines, none, more}
+use Rattle.cutting.specs.declared.Line.{Line}
+use Rattle.cutting.specs.Lines.{Cut, Lines, none, more}
 use Rattle.desk.specs.Plans.{plan}
 
 -- the dealings of the lines before a place

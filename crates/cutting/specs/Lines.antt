@@ -1,6 +1,6 @@
 -- Lines: each ends at byte 10, and a last one without it counts unless it is empty.
 use Rattle.std.specs.Prelude.{◌≡◌, ℕ, ◌+◌, ◌<◌, ◌≤◌, List, [], ◌∷◌, ◌++◌, length, ◌≢◌, slice_index}
-use Rattle.desk.specs.declared.cutting.Line.{Line}
+use Rattle.cutting.specs.declared.Line.{Line}
 
 -- the line that begins at `from` ends at `end`: at the first byte 10, or at the end of the input
 pub record EndsAt (input : List ℕ) (from end : ℕ) : Type 0 where
