@@ -5,7 +5,7 @@ ghost use Rattle.desk.specs.Plans.{Planned, filed_number, came_to};
 use book::dealing::{Answer, Dealing};
 use book::fault::BookFault;
 use book::outcome::Outcome;
-use cutting::next_line;
+use cutting::lines;
 use std::alloc::{AllocError, Global};
 
 // Each line is submitted, and then filed.
@@ -13,11 +13,9 @@ pub fn plan(heap: Global, input: &[u8]) -> Result<Vec<Dealing>, AllocError>
     ensures { IfOk result (λ v. Planned input.now v.items) }
 {
     let mut dealings = Vec::new(heap);
-    let mut at = 0;
-    'lines: while let Some(line) = next_line(input, at) {
+    'lines: for line in lines(input) {
         dealings.push(Dealing::Submit(line.from, line.to))?;
         dealings.push(Dealing::File)?;
-        at = line.next;
     }
     Ok(dealings)
 }
