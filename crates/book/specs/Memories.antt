@@ -13,26 +13,24 @@ use Rattle.table.specs.View.{View, kept_row}
 use Rattle.derivation_check.specs.Checking.{Refuses}
 use Rattle.typer.specs.Derivations.{Underived}
 use Rattle.lines.specs.Lines.{filed_line, refused_line}
-use Rattle.ledger.specs.Calls.{Submission}
-use Rattle.ledger.specs.Calls as calls
+use Rattle.ledger.specs.Calls.{Submission, Outcome}
 use Rattle.book.specs.declared.fault.BookFault.{BookFault}
 use Rattle.book.specs.declared.fault.BookFault.TheVariants.{Busy, Full, TooManyBytes, Formula, Types, NoTermSpace, NoListSpace, NoCandidate, CandidateOpen, NothingFiled, NotFiled, TooLong, NoLineRoom, Derivation, Check}
-use Rattle.book.specs.declared.outcome.Outcome.{Outcome}
-use Rattle.book.specs.declared.outcome.Outcome.TheVariants.{Filed, Refused}
 use Rattle.book.specs.Faults.{says}
 
 -- the lists kept for the filed rows, by number
 abbrev pub kept_lists : View → Lists
 kept_lists v k = (slice_index_or v.rows k no_row).list
 
-abbrev pub outcome_of : Outcome → calls.Outcome
-outcome_of (Filed n) = calls.filed_as n
-outcome_of (Refused f) = calls.refused_for (says f)
+-- what became of a formula, as the ledger says it
+abbrev pub outcome_of : Result ℕ BookFault → Outcome
+outcome_of (Ok n) = Ok n
+outcome_of (Err f) = Err (says f)
 
 -- the line of an outcome
-abbrev pub outcome_line : View → Outcome → List ℕ
-outcome_line v (Filed n) = filed_line n (kept_row v n).list
-outcome_line v (Refused f) = refused_line (says f)
+abbrev pub outcome_line : View → Result ℕ BookFault → List ℕ
+outcome_line v (Ok n) = filed_line n (kept_row v n).list
+outcome_line v (Err f) = refused_line (says f)
 
 -- A derivation stands in the memories, or else they are as they were; but for a row without a type, which no book that
 -- came by its dealings has.

@@ -1,5 +1,5 @@
 // A list of dealings, carried out on a new book.
-ghost use Rattle.std.specs.Prelude.{◌≡◌, ℕ, ◌≤◌, min, true, false, length, take};
+ghost use Rattle.std.specs.Prelude.{◌≡◌, length, take};
 ghost use Rattle.ledger.specs.Calls.{submit as to_submit, file as to_file, dismiss as to_dismiss};
 ghost use Rattle.book.specs.Dealing.{reply_of, CarriedOut, Carries, rooms_of};
 ghost use Rattle.book.specs.History.{Link};
@@ -8,6 +8,7 @@ ghost use Rattle.book.specs.Dealing.{part as cut};
 
 use crate::book::Book;
 use crate::dealing::{Answer, Dealing};
+use crate::fault::BookFault;
 use crate::ticket::Ticket;
 use catalogue::interface::Catalogue;
 use term::TermNode;
@@ -17,22 +18,23 @@ use types::TypeNode;
 fn part(texts: &[u8], from: usize, to: usize) -> &[u8]
     ensures { result.now ≡ cut texts.now from to }
 {
-    if from <= to && to <= texts.len() {
-        &texts[from..to]
-    } else {
-        &texts[0..0]
-    }
+    texts.get(from..to).unwrap_or(&[])
 }
 
 // The first n of a list, or all.
 fn front<T>(items: &[T], n: usize) -> &[T]
     ensures { result.now ≡ take n items.now }
 {
-    if n <= items.len() {
-        &items[0..n]
-    } else {
-        items
-    }
+    items.get(..n).unwrap_or(items)
+}
+
+// The fault of a refusal; the ticket that came back with it is spent.
+fn without_ticket(refused: (BookFault, Ticket)) -> BookFault
+    ensures { result ≡ refused.0 }
+{
+    let (fault, ticket) = refused;
+    ticket.spend();
+    fault
 }
 
 // Tickets are plain numbers, and a list of dealings says itself when one is spent: so the ticket of a submit is spent at
@@ -44,37 +46,27 @@ impl<C: Catalogue> Book<C> {
         terms: &mut [TermNode],
         types: &mut [TypeNode],
         numbers: &mut [u32],
-    ) -> Answer
+    ) -> Result<Answer, BookFault>
         ensures { Link C.entries self.old (to_submit (submission text.now terms.old types.old numbers.old)) (reply_of result) self.new }
     {
-        match self.submit(text, terms, types, numbers) {
-            Ok(ticket) => Answer::Opened(ticket.spend()),
-            Err(fault) => Answer::Refused(fault),
-        }
+        let ticket = self.submit(text, terms, types, numbers)?;
+        Ok(Answer::Opened(ticket.spend()))
     }
 
-    fn file_candidate(&mut self) -> Answer
+    fn file_candidate(&mut self) -> Result<Answer, BookFault>
         ensures { Link C.entries self.old to_file (reply_of result) self.new }
     {
-        match self.file(Ticket::new(0)) {
-            Ok(number) => Answer::Filed(number),
-            Err((fault, ticket)) => {
-                ticket.spend();
-                Answer::Refused(fault)
-            }
-        }
+        self.file(Ticket::new(0))
+            .map(Answer::Filed)
+            .map_err(without_ticket)
     }
 
-    fn dismiss_candidate(&mut self) -> Answer
+    fn dismiss_candidate(&mut self) -> Result<Answer, BookFault>
         ensures { Link C.entries self.old to_dismiss (reply_of result) self.new }
     {
-        match self.dismiss(Ticket::new(0)) {
-            Ok(()) => Answer::Dismissed,
-            Err((fault, ticket)) => {
-                ticket.spend();
-                Answer::Refused(fault)
-            }
-        }
+        self.dismiss(Ticket::new(0))
+            .map(|()| Answer::Dismissed)
+            .map_err(without_ticket)
     }
 
     // Carries out one dealing.
@@ -87,7 +79,7 @@ impl<C: Catalogue> Book<C> {
         numbers: &mut [u32],
         places: &mut [u16],
         out: &mut [u8],
-    ) -> Answer
+    ) -> Result<Answer, BookFault>
         ensures { Carries C.entries self.old texts.now (rooms_of terms.old types.old numbers.old places.old out.old) dealing result self.new }
     {
         match dealing {
@@ -96,28 +88,15 @@ impl<C: Catalogue> Book<C> {
             }
             Dealing::File => self.file_candidate(),
             Dealing::Dismiss => self.dismiss_candidate(),
-            Dealing::Withdraw => match self.withdraw() {
-                Ok(number) => Answer::Withdrawn(number),
-                Err(fault) => Answer::Refused(fault),
-            },
-            Dealing::Show(number) => match self.show(number, out) {
-                Ok(bytes) => Answer::Shown(bytes),
-                Err(fault) => Answer::Refused(fault),
-            },
-            Dealing::Line(outcome) => match self.line(outcome, out) {
-                Ok(bytes) => Answer::Lined(bytes),
-                Err(fault) => Answer::Refused(fault),
-            },
-            Dealing::Derive(number) => match self.derive(number, types, places, numbers) {
-                Ok(records) => Answer::Derived(records),
-                Err(fault) => Answer::Refused(fault),
-            },
-            Dealing::Check(number, records, count) => {
-                match self.check(number, front(types, records), front(places, count)) {
-                    Ok(()) => Answer::Passed,
-                    Err(fault) => Answer::Refused(fault),
-                }
-            }
+            Dealing::Withdraw => self.withdraw().map(Answer::Withdrawn),
+            Dealing::Show(number) => self.show(number, out).map(Answer::Shown),
+            Dealing::Line(outcome) => self.line(outcome, out).map(Answer::Lined),
+            Dealing::Derive(number) => self
+                .derive(number, types, places, numbers)
+                .map(Answer::Derived),
+            Dealing::Check(number, records, count) => self
+                .check(number, front(types, records), front(places, count))
+                .map(|()| Answer::Passed),
         }
     }
 }
@@ -132,14 +111,14 @@ pub fn keep_book<C: Catalogue>(
     numbers: &mut [u32],
     places: &mut [u16],
     out: &mut [u8],
-    answers: &mut [Answer],
+    answers: &mut [Result<Answer, BookFault>],
 ) -> Book<C>
     ensures { CarriedOut C.entries (C.entries catalogue) texts.now (rooms_of terms.old types.old numbers.old places.old out.old) (take (length answers.old) dealings.now) (take (length dealings.now) answers.new) result }
 {
-    let count = dealings.len().min(answers.len());
     let mut book = Book::new(catalogue);
-    'dealings: for i in 0..count {
-        answers[i] = book.carry_out(dealings[i], texts, terms, types, numbers, places, out);
+    let answered = front(dealings, answers.len());
+    'dealings: for (i, dealing) in answered.iter().enumerate() {
+        answers[i] = book.carry_out(*dealing, texts, terms, types, numbers, places, out);
     }
     book
 }

@@ -1,5 +1,4 @@
 // The dealings with a book, as values.
-use crate::fault::BookFault;
 use crate::outcome::Outcome;
 
 #[derive(Clone, Copy)]
@@ -16,9 +15,9 @@ pub enum Dealing {
     Check(u16, usize, usize),
 }
 
+// What was done, where a dealing was not refused.
 #[derive(Clone, Copy)]
 pub enum Answer {
-    Refused(BookFault),
     Opened(u16),
     Filed(u16),
     Dismissed,

@@ -8,7 +8,6 @@ pub mod dealing;
 mod derivation;
 pub mod fault;
 mod judging;
-mod memory;
 pub mod outcome;
 mod showing;
 mod submitting;

@@ -1,10 +1,5 @@
 // What became of a submitted formula.
 use crate::fault::BookFault;
 
-#[derive(Clone, Copy)]
-pub enum Outcome {
-    // It was filed under a number.
-    Filed(u16),
-    // It was refused.
-    Refused(BookFault),
-}
+// It was filed under a number, or refused.
+pub type Outcome = Result<u16, BookFault>;

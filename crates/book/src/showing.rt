@@ -28,10 +28,9 @@ impl<C: Catalogue> Book<C> {
         }
         match show_list(self.table.list(number), out) {
             Ok(length) => Ok(length),
-            Err(fault) => match fault {
-                ShowFault::TooLong => Err(BookFault::TooLong),
-                ShowFault::Unlawful => unreachable(),
-            },
+            Err(ShowFault::TooLong) => Err(BookFault::TooLong),
+            // The list of a row is lawful.
+            Err(ShowFault::Unlawful) => unreachable(),
         }
     }
 
@@ -45,13 +44,13 @@ impl<C: Catalogue> Book<C> {
             return Err(BookFault::NoLineRoom);
         }
         match outcome {
-            Outcome::Filed(number) => {
+            Ok(number) => {
                 if number >= self.table.count() {
                     return Err(BookFault::NotFiled);
                 }
                 Ok(write_filed(number, self.table.list(number), out))
             }
-            Outcome::Refused(fault) => Ok(write_refused(Refusal::from(fault), out)),
+            Err(fault) => Ok(write_refused(Refusal::from(fault), out)),
         }
     }
 }

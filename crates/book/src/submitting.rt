@@ -10,7 +10,6 @@ ghost use Rattle.book.specs.Replies.{numbered, reply_submit, Unspent, Opens, Ref
 use crate::book::Book;
 use crate::fault::BookFault;
 use crate::judging::{Judged, admit, judge};
-use crate::memory::{clear_numbers, clear_terms, clear_types};
 use crate::ticket::Ticket;
 use catalogue::interface::Catalogue;
 use term::TermNode;
@@ -56,12 +55,9 @@ impl<C: Catalogue> Book<C> {
     {
         admit(&self.table, text)?;
         let opened = self.open_candidate(text, terms, types, numbers);
-        clear_terms(terms);
-        clear_types(types);
-        clear_numbers(numbers);
-        match opened {
-            Ok(number) => Ok(Ticket::new(number)),
-            Err(fault) => Err(fault),
-        }
+        terms.fill(TermNode::default());
+        types.fill(TypeNode::default());
+        numbers.fill(0);
+        opened.map(Ticket::new)
     }
 }

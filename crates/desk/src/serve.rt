@@ -3,6 +3,7 @@ use crate::plan::{outcome, plan};
 use book::book::Book;
 use book::carrying::keep_book;
 use book::dealing::Answer;
+use book::fault::BookFault;
 use catalogue::interface::Catalogue;
 use std::io;
 use std::io::{Read, Write};
@@ -32,7 +33,7 @@ pub fn read_input(rt: &HostRuntime) -> io::Result<Vec<u8>> {
 fn print_outcomes<C: Catalogue>(
     rt: &HostRuntime,
     book: &Book<C>,
-    answers: &[Answer],
+    answers: &[Result<Answer, BookFault>],
     out: &mut [u8],
 ) -> io::Result<()> {
     let mut to = rt.stdout();
@@ -50,13 +51,9 @@ fn print_outcomes<C: Catalogue>(
 pub fn serve<C: Catalogue + Drop>(rt: &HostRuntime, catalogue: C, input: &[u8]) -> io::Result<()> {
     let heap = rt.alloc();
     let dealings = plan(heap, input)?;
-    let mut answers = vec![in heap; Answer::Passed; dealings.len()]?;
-    let mut terms = vec![in heap; TermNode { kind: 0, number: 0 }; TERMS]?;
-    let mut types = vec![in heap; TypeNode {
-        kind: 0,
-        left: 0,
-        right: 0
-    }; TYPES]?;
+    let mut answers = vec![in heap; Ok(Answer::Passed); dealings.len()]?;
+    let mut terms = vec![in heap; TermNode::default(); TERMS]?;
+    let mut types = vec![in heap; TypeNode::default(); TYPES]?;
     let mut numbers = vec![in heap; 0u32; NUMBERS]?;
     let mut out = vec![in heap; 0u8; BYTES]?;
     let book = keep_book(

@@ -1,5 +1,5 @@
 -- A look as its questions one after the other: it has one reply at most.
-use Rattle.std.proofs.Common.{ℕ, ◌<◌, ◌≤◌, List, length, sym, ap, ◌∙◌, arith}
+use Rattle.std.proofs.Common.{ℕ, ◌<◌, ◌≤◌, List, length, Ok, Err, sym, ap, ◌∙◌, arith}
 use Rattle.refusal.specs.declared.Refusal.{Refusal}
 use Rattle.term.specs.Terms.{Term, prefix}
 use Rattle.catalogue.specs.Entries.{Entry}
@@ -10,7 +10,7 @@ use Rattle.typer.specs.Derivations.{Fits, Holds, Roomless, no_type_room, no_plac
 use Rattle.typer.specs.Questions.{numbers_for}
 use Rattle.typer.proofs.Renamed.{one_typing_list}
 use Rattle.ledger.specs.Ledger.{Row, Ledger, entered, kept, all_rows, row_at}
-use Rattle.ledger.specs.Calls.{Outcome, filed_as, refused_for, Call, submit, file, dismiss, withdraw, show, line, derive, check, Reply, refused, shown, lined, derived}
+use Rattle.ledger.specs.Calls.{Outcome, Call, submit, file, dismiss, withdraw, show, line, derive, check, Reply, refused, shown, lined, derived}
 use Rattle.ledger.specs.Submitting.{need_of}
 use Rattle.ledger.specs.Looking.{row_text, refused_by_book, Derives, Looks, not_shown, overlong, is_shown, no_line_room, not_lined, is_lined, refusal_lined, not_derived, roomless, is_derived, not_checked, unsound, is_checked}
 use Rattle.ledger.proofs.Asking.{One, Says, Asks, denied, granted, Takes, said, one_says, one_asked, one_takes}
@@ -26,8 +26,8 @@ module _ (es : List Entry) (l : Ledger) where
   Shows r room = Asks (Prints (row_text r) room) (Says (Prints (row_text r) room → ⊥) (refused_by_book 71)) (Says (Unit {0}) (shown (length (row_text r))))
 
   abbrev Lines : Outcome → Reply → Type 0
-  Lines (filed_as n) = Among n (length l.rows) (Says (Unit {0}) (lined (length (filed_line n (row_at l.rows n).list))))
-  Lines (refused_for f) = Says (Unit {0}) (lined (length (refused_line f)))
+  Lines (Ok n) = Among n (length l.rows) (Says (Unit {0}) (lined (length (filed_line n (row_at l.rows n).list))))
+  Lines (Err f) = Says (Unit {0}) (lined (length (refused_line f)))
 
   abbrev Deriving : Term → ℕ → ℕ → ℕ → Reply → Type 0
   Deriving t types places numbers =
@@ -56,8 +56,8 @@ module _ (es : List Entry) (l : Ledger) where
       p.count ∙ ap length (one_typing_list (entered es) (kept l.rows) t p.nodes q.nodes p.long q.long p.principal q.principal) ∙ sym q.count
 
   one_line : (o : Outcome) → One (Lines o)
-  one_line (filed_as n) = one_among n (length l.rows) _ one_says
-  one_line (refused_for f) = one_says
+  one_line (Ok n) = one_among n (length l.rows) _ one_says
+  one_line (Err f) = one_says
 
   one_deriving : (t : Term) (types places numbers : ℕ) → One (Deriving t types places numbers)
   one_deriving t types places numbers =

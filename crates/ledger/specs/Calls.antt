@@ -1,5 +1,5 @@
 -- The dealings with a book, and what each may be answered.
-use Rattle.std.specs.Prelude.{ℕ, List}
+use Rattle.std.specs.Prelude.{ℕ, List, Result}
 use Rattle.refusal.specs.declared.Refusal.{Refusal}
 use Rattle.types.specs.declared.TypeNode.{TypeNode}
 
@@ -11,9 +11,8 @@ pub record Submission : Type 0 where
   pub numbers : ℕ
 
 -- what became of a submitted formula: it was filed under a number, or refused
-pub data Outcome : Type 0 where
-  filed_as : ℕ → Outcome
-  refused_for : Refusal → Outcome
+abbrev pub Outcome : Type 0
+Outcome = Result ℕ Refusal
 
 -- The eight dealings. Showing the type of a formula and writing an outcome's line are given room for so many bytes; the
 -- derivation of a formula is given so many type records, places and numbers.

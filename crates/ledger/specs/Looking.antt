@@ -1,5 +1,5 @@
 -- The dealings that only look at the ledger: a formula's type shown, an outcome's line, a derivation made or checked.
-use Rattle.std.specs.Prelude.{◌≡◌, ℕ, ◌<◌, ◌≤◌, List, length, slice_index_or}
+use Rattle.std.specs.Prelude.{◌≡◌, ℕ, ◌<◌, ◌≤◌, List, length, Ok, Err, slice_index_or}
 use Rattle.refusal.specs.Saying.{saying}
 use Rattle.refusal.specs.declared.Layer.TheVariants as layer
 use Rattle.refusal.specs.declared.Refusal.{Refusal}
@@ -17,7 +17,7 @@ use Rattle.printing.specs.Writing.{Prints}
 use Rattle.typer.specs.Answers.{PrincipalTyping}
 use Rattle.typer.specs.Derivations.{Holds, Roomless}
 use Rattle.ledger.specs.Ledger.{Row, Ledger, entered, kept, all_rows, row_at}
-use Rattle.ledger.specs.Calls.{Outcome, filed_as, refused_for, Call, show, line, derive, check, Reply, refused, shown, lined, derived, passed}
+use Rattle.ledger.specs.Calls.{Outcome, Call, show, line, derive, check, Reply, refused, shown, lined, derived, passed}
 use Rattle.ledger.specs.Submitting.{need_of}
 
 -- the text of a row's type
@@ -43,9 +43,9 @@ pub data Looks (es : List Entry) (l : Ledger) : Call → Reply → Type 0 where
   overlong : {n room : ℕ} → n < length (all_rows l) → (Prints (row_text (row_at (all_rows l) n)) room → ⊥) → Looks es l (show n room) (refused_by_book 71)
   is_shown : {n room : ℕ} → n < length (all_rows l) → Prints (row_text (row_at (all_rows l) n)) room → Looks es l (show n room) (shown (length (row_text (row_at (all_rows l) n))))
   no_line_room : {o : Outcome} {room : ℕ} → room < line_room → Looks es l (line o room) (refused_by_book 72)
-  not_lined : {n room : ℕ} → line_room ≤ room → length l.rows ≤ n → Looks es l (line (filed_as n) room) (refused_by_book 70)
-  is_lined : {n room : ℕ} → line_room ≤ room → n < length l.rows → Looks es l (line (filed_as n) room) (lined (length (filed_line n (row_at l.rows n).list)))
-  refusal_lined : {f : Refusal} {room : ℕ} → line_room ≤ room → Looks es l (line (refused_for f) room) (lined (length (refused_line f)))
+  not_lined : {n room : ℕ} → line_room ≤ room → length l.rows ≤ n → Looks es l (line (Ok n) room) (refused_by_book 70)
+  is_lined : {n room : ℕ} → line_room ≤ room → n < length l.rows → Looks es l (line (Ok n) room) (lined (length (filed_line n (row_at l.rows n).list)))
+  refusal_lined : {f : Refusal} {room : ℕ} → line_room ≤ room → Looks es l (line (Err f) room) (lined (length (refused_line f)))
   not_derived : {n types places numbers : ℕ} → length l.rows ≤ n → Looks es l (derive n types places numbers) (refused_by_book 70)
   roomless : {n types places numbers : ℕ} {r : Refusal} → n < length l.rows → Roomless (need_of es l.rows (row_at l.rows n).term) (size (row_at l.rows n).term) types places numbers r → Looks es l (derive n types places numbers) (refused r)
   is_derived : {n types places numbers m : ℕ} → n < length l.rows → Holds (need_of es l.rows (row_at l.rows n).term) (size (row_at l.rows n).term) types places numbers → Derives es l.rows (row_at l.rows n).term m → Looks es l (derive n types places numbers) (derived m)

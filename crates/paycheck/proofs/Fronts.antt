@@ -17,9 +17,6 @@ use Rattle.printing.specs.Writing.{Printed, Overlong, Shown}
 use Rattle.typer.specs.Questions.{Unserved}
 use Rattle.typer.specs.Answers.{Typed, NoTypes}
 use Rattle.typer.specs.Answers as typing
-use Rattle.std.proofs.str.Laws.{order}
-use Rattle.paycheck.specs.Lines.{Cut}
-use Rattle.paycheck.specs.declared.lines.Line.{Line}
 use Rattle.paycheck.specs.Replies.{entries, nothing, Types, Refused, unserved, no_type, too_long}
 
 front_of : {X : Type 0} (m l r : List X) (n : ℕ) → m ≡ l ++ r → n ≡ length l → take (n - 0) m ≡ l
@@ -63,8 +60,3 @@ module _ (line : List ℕ) (terms : List TermNode) (n : ℕ) (a : Accepted built
 -- what is not shown for a reason
 pub shown_for : (l : List TypeNode) (before after : List ℕ) (f g : ShowFault) → f ≡ g → Shown l before after (Err f) → Shown l before after (Err g)
 shown_for l before after f g e s = subst (λ h. Shown l before after (Err h)) e s
-
--- the next line begins later, within the input or at its end
-pub cut_advances : (input : List ℕ) (from : ℕ) (l : Line) → Cut input from l → (from < l.next) × (from < length input)
-cut_advances input from l c =
-    (⊎_elim (λ lt. omega (arith, c.next.0 lt, c.ends.reached)) (λ ge. let e : c.end ≡ length input = omega (arith, c.ends.within) in omega (arith, c.next.1 e, c.inside)) (order c.end (length input)), c.inside)

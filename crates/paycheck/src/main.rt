@@ -3,11 +3,10 @@
 #![tactic(auto)]
 
 mod fault;
-mod lines;
 mod reply;
 
+use cutting::lines;
 use fault::LineFault;
-use lines::next_line;
 use refusal::Refusal;
 use reply::reply as type_of;
 use std::io;
@@ -30,29 +29,20 @@ fn say(rt: &HostRuntime, reply: Result<usize, LineFault>, out: &[u8]) -> io::Res
             to.write_all(b"\n")
         }
         Err(LineFault::TooLong) => println!(rt; "too long"),
-        Err(fault) => {
-            let refusal = Refusal::from(fault);
-            println!(rt; "{refusal}")
-        }
+        Err(fault) => println!(rt; "{}", Refusal::from(fault)),
     }
 }
 
 fn main(rt: HostRuntime) -> io::Result<()> {
     let mut input = Vec::new(rt.alloc());
     let _ = rt.stdin().take(MOST_BYTES).read_to_end(&mut input)?;
-    let mut terms = vec![in rt.alloc(); TermNode { kind: 0, number: 0 }; 1024]?;
-    let mut types = vec![in rt.alloc(); TypeNode {
-        kind: 0,
-        left: 0,
-        right: 0
-    }; 4096]?;
+    let mut terms = vec![in rt.alloc(); TermNode::default(); 1024]?;
+    let mut types = vec![in rt.alloc(); TypeNode::default(); 4096]?;
     let mut numbers = vec![in rt.alloc(); 0u32; NUMBERS]?;
     let mut out = vec![in rt.alloc(); 0u8; 4096]?;
-    let mut at = 0;
-    'lines: while let Some(line) = next_line(&input, at) {
+    for line in lines(&input) {
         let reply = type_of(line.text, &mut terms, &mut types, &mut numbers, &mut out);
         say(&rt, reply, &out)?;
-        at = line.next;
     }
     Ok(())
 }

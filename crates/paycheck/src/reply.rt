@@ -38,9 +38,8 @@ pub fn reply(
     let records = typed?;
     match show(&types[0..records], out) {
         Ok(length) => Ok(length),
-        Err(fault) => match fault {
-            ShowFault::TooLong => Err(LineFault::TooLong),
-            ShowFault::Unlawful => unreachable(),
-        },
+        Err(ShowFault::TooLong) => Err(LineFault::TooLong),
+        // The list of a type is lawful.
+        Err(ShowFault::Unlawful) => unreachable(),
     }
 }

@@ -12,7 +12,7 @@ returns-then-not-has_row g c =
 
 pub unreachable-requires : goal.unreachable-requires
 unreachable-requires g c =
-    never_unlawful c.args.self.now.table c.args.number c.list.result.now _ _ _ c.list.ensures (c.has_row.ensures.0 c.if-not-has_row.false) c.in-Unlawful.is c.in-Err.ensures
+    never_unlawful c.args.self.now.table c.args.number c.list.result.now _ _ _ c.list.ensures (c.has_row.ensures.0 c.if-not-has_row.false) c.in-Err-Unlawful.field-0-is c.in-Err-Unlawful.ensures
 
 pub returns-in-Ok : goal.returns-in-Ok
 returns-in-Ok g c =
@@ -23,11 +23,11 @@ returns-in-Ok g c =
       text = printed_row (view b.table) c.args.number c.list.result.now c.args.out.now c.show.new.out c.list.ensures c.in-Ok.length p;
     }
 
-pub returns-in-TooLong : goal.returns-in-TooLong
-returns-in-TooLong g c =
+pub returns-in-Err-TooLong : goal.returns-in-Err-TooLong
+returns-in-Err-TooLong g c =
     let b = c.args.self.now in
-    let s = c.in-Err.ensures in
+    let e = c.in-Err-TooLong in
     record {
-      done = deals g.C.Catalogue.entries g.C.Catalogue.lawful b b _ refl refl (shows_too_long (view b.table) c.args.number c.list.result.now c.args.out.now c.show.new.out c.list.ensures _ (c.has_row.ensures.0 c.if-not-has_row.false) c.in-Err.fault c.in-TooLong.is s);
-      text = left_alone (view b.table) c.args.number c.list.result.now c.args.out.now c.show.new.out c.list.ensures c.in-Err.fault c.in-TooLong.is s;
+      done = deals g.C.Catalogue.entries g.C.Catalogue.lawful b b _ refl refl (shows_too_long (view b.table) c.args.number c.list.result.now c.args.out.now c.show.new.out c.list.ensures _ (c.has_row.ensures.0 c.if-not-has_row.false) e.field-0 e.field-0-is e.ensures);
+      text = left_alone (view b.table) c.args.number c.list.result.now c.args.out.now c.show.new.out c.list.ensures e.field-0 e.field-0-is e.ensures;
     }

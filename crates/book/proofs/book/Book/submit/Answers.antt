@@ -1,4 +1,4 @@
-use Rattle.std.proofs.Common.{ℕ, false, replicate, sym, refl, ap, ◌∙◌, subst}
+use Rattle.std.proofs.Common.{rules, ℕ, false, replicate, sym, refl, ap, ◌∙◌, subst}
 use Rattle.term.specs.Terms.{zero_node as no_term_node}
 use Rattle.types.specs.Lists.{zero_node as no_type_node}
 use Rattle.std.proofs.lemmas.Result.{err_from_is_err_and}
@@ -28,27 +28,5 @@ returns-in_err-admit g c =
       candidate = tt;
     })
 
-pub returns-in-Ok : goal.returns-in-Ok
-returns-in-Ok g c =
-    let o = c.in-Ok.ensures in
-    let b = c.args.self.now in
-    let s = submission c.args.text.now c.args.terms.now c.args.types.now c.args.numbers.now in
-    record {
-      done = does g.C.Catalogue.entries g.C.Catalogue.lawful
-          (subst (λ (t : Ticket). Link g.C.Catalogue.entries b (submit s) (opened t.number) c.open_candidate-opened.new.self) (sym c.new.ensures) o.link);
-      memories = zeroed _ _ _ _ _ _ false refl (c.clear_terms.ensures ∙ ap (λ (n : ℕ). replicate n no_term_node) c.open_candidate-opened.auto.terms) (c.clear_types.ensures ∙ ap (λ (n : ℕ). replicate n no_type_node) c.open_candidate-opened.auto.types) (c.clear_numbers.ensures ∙ ap (λ (n : ℕ). replicate n 0) c.open_candidate-opened.auto.numbers);
-      ticket = ap (λ (t : Ticket). t.spent) c.new.ensures;
-      kept = tt;
-      candidate = o.candidate;
-    }
-
-pub returns-in-Err : goal.returns-in-Err
-returns-in-Err g c =
-    let o = c.in-Err.ensures in
-    record {
-      done = does g.C.Catalogue.entries g.C.Catalogue.lawful o.link;
-      memories = zeroed _ _ _ _ _ _ (unread c.in-Err.fault) o.work (c.clear_terms.ensures ∙ ap (λ (n : ℕ). replicate n no_term_node) c.open_candidate-opened.auto.terms) (c.clear_types.ensures ∙ ap (λ (n : ℕ). replicate n no_type_node) c.open_candidate-opened.auto.types) (c.clear_numbers.ensures ∙ ap (λ (n : ℕ). replicate n 0) c.open_candidate-opened.auto.numbers);
-      ticket = tt;
-      kept = o.kept;
-      candidate = tt;
-    }
+pub returns-clause-done : goal.returns-clause-done
+returns-clause-done g c = does g.C.Catalogue.entries g.C.Catalogue.lawful (search rules)
