@@ -1,22 +1,39 @@
--- The names of the binders in scope, as they stand in a memory.
-use Rattle.std.proofs.Common.{◌≡◌, ℕ, ◌-◌, ◌<◌, ◌≤◌, List, [], map, length, get_or, take, sym, ap, ◌∙◌, subst, arith, Bor}
-use Rattle.std.proofs.lemmas.List.{get_or-reverse, length-reverse, get_or-take, length-take-le, length-map, get_or-map}
+-- The innermost binder that bears a name, looked for outwards.
+use Rattle.std.proofs.Common.{◌≡◌, ℕ, ◌+◌, ◌<◌, ◌≤◌, List, [], ◌∷◌, length, get_or, drop, sym, refl, ap, ◌∙◌, subst, arith, add-zero, length-drop, below_more}
+use Prim.Native.Nat.{min}
+use Rattle.std.proofs.lemmas.List.{get_or-drop, drop-drop}
 use Rattle.catalogue.specs.Names.{Name, Same}
 use Rattle.formula.specs.Names.{Bound}
-use Rattle.formula.specs.Parsing.{scope_of}
 
-scope_length : (b : List (Bor (List ℕ))) (d : ℕ) → d ≤ length b → length (scope_of b d) ≡ d
-scope_length b d h = length-reverse (take d (map (λ x. x.now) b)) ∙ length-take-le d (map (λ x. x.now) b) (omega (arith, length-map b (λ x. x.now)))
+-- some of the names have been passed, and w is none of them; k counts them, up to 65,535
+pub record Walked (names left : List Name) (w : Name) (k : ℕ) : Type 0 where
+  pub steps : ℕ
+  pub left_is : left ≡ drop steps names
+  pub none : (j : ℕ) → j < steps → Same (get_or names j []) w → ⊥
+  pub counts : k ≡ min steps 65535
 
--- a name in scope, counted from within
-pub scope_at : (b : List (Bor (List ℕ))) (d k : ℕ) (e : Bor (List ℕ)) → d ≤ length b → k < d → get_or (scope_of b d) k [] ≡ (get_or b (d - 1 - k) e).now
-scope_at b d k e h l =
-    let long : length (take d (map (λ x. x.now) b)) ≡ d = length-take-le d (map (λ x. x.now) b) (omega (arith, length-map b (λ x. x.now))) in
-    get_or-reverse (take d (map (λ x. x.now) b)) k [] (omega arith) ∙ ap (λ x. get_or (take d (map (λ x. x.now) b)) (x - 1 - k) []) long
-    ∙ get_or-take d (map (λ x. x.now) b) (d - 1 - k) [] (omega arith) ∙ get_or-map (λ x. x.now) b (d - 1 - k) e [] (omega arith)
+pub walked_none_yet : (names : List Name) (w : Name) → Walked names names w 0
+walked_none_yet names w = record { steps = 0; left_is = refl; none = λ j h. absurd (omega arith); counts = omega arith }
 
-pub bound_within : (b : List (Bor (List ℕ))) (d : ℕ) (w : Name) (k : ℕ) → d ≤ length b → Bound (scope_of b d) w k → k < d
-bound_within b d w k h i = omega (arith, i.within, scope_length b d h)
+head_is : (names rest : List Name) (i : ℕ) (v : Name) → v ∷ rest ≡ drop i names → (get_or names i [] ≡ v) × (i < length names)
+head_is names rest i v e = (
+  ap (λ j. get_or names j []) (sym (add-zero i)) ∙ sym (get_or-drop i names 0 []) ∙ ap (λ l. get_or l 0 []) (sym e),
+  omega (arith, length-drop i names, ap length e),
+)
 
-pub bound_at : (b : List (Bor (List ℕ))) (d : ℕ) (w : Name) (k : ℕ) (e : Bor (List ℕ)) → d ≤ length b → k < d → Same (get_or b (d - 1 - k) e).now w → ((j : ℕ) → j < k → Same (get_or (scope_of b d) j []) w → ⊥) → Bound (scope_of b d) w k
-bound_at b d w k e h l s n = record { within = omega (arith, scope_length b d h); bears = subst (λ v. Same v w) (sym (scope_at b d k e h l)) s; innermost = n }
+pub walked_more : (names rest : List Name) (v w : Name) (k m : ℕ) → Walked names (v ∷ rest) w k → (Same v w → ⊥) → m ≡ min (k + 1) 65535 → Walked names rest w m
+walked_more names rest v w k m p n e =
+    record {
+      steps = p.steps + 1;
+      left_is = ap (drop 1) p.left_is ∙ drop-drop 1 p.steps names;
+      none = below_more _ p.steps p.none (λ s. n (subst (λ x. Same x w) (head_is names rest p.steps v p.left_is).0 s));
+      counts = omega (arith, p.counts);
+    }
+
+pub walked_found : (names rest : List Name) (v w : Name) (k : ℕ) → Walked names (v ∷ rest) w k → Same v w → (i : ℕ) × Bound names w i × (i ≤ 65535 → k ≡ i)
+walked_found names rest v w k p s =
+    let h = head_is names rest p.steps v p.left_is in
+    (p.steps, record { within = h.1; bears = subst (λ x. Same x w) (sym h.0) s; innermost = p.none }, λ few. omega (arith, p.counts))
+
+pub walked_all : (names : List Name) (w : Name) (k : ℕ) → Walked names [] w k → (i : ℕ) → Bound names w i → ⊥
+walked_all names w k p i b = p.none i (omega (arith, b.within, length-drop p.steps names, ap length p.left_is)) b.bears
