@@ -1,5 +1,5 @@
 -- What the parts of the reader answer: contracts of its own, in the words of grammar and names.
-use Rattle.std.specs.Prelude.{◌≡◌, ℕ, ◌+◌, ◌-◌, ◌*◌, ◌^◌, ◌<◌, ◌≤◌, ◌⊎◌, Bool, true, false, List, [], ◌∷◌, ◌++◌, length, take, drop, Some, None, Ok, Err, Option, Result, ◌≢◌}
+use Rattle.std.specs.Prelude.{◌≡◌, ℕ, ◌+◌, ◌-◌, ◌*◌, ◌<◌, ◌≤◌, ◌⊎◌, Bool, true, false, List, [], ◌∷◌, ◌++◌, length, take, drop, Some, None, Ok, Err, Option, Result, ◌≢◌}
 use Rattle.catalogue.specs.Names.{Name}
 use Rattle.catalogue.specs.Entries.{Entry}
 use Rattle.std.specs.List.{AllByRecursion}
@@ -145,11 +145,6 @@ BlamesApplication text from f = (ts : List Token) → Rest text from ts → NoLa
 
 abbrev pub BlamesNext : List ℕ → ℕ → TextFault → Type 0
 BlamesNext text from f = (ts : List Token) → Rest text from ts → GoesOn ts → (g : Tree) (k : Frames) → Blames (after g k) ts (length text) f
-
--- what the parts of the reader are called with
-pub record Ready (text : List ℕ) (from : ℕ) : Type 0 where
-  pub inside : from ≤ length text
-  pub short : 2 * length text < 2 ^ 64
 
 -- The whole text was read. Its names are settled, and its term is written where the memory has room for it, up to 1,024
 -- nodes.

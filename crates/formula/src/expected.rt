@@ -1,5 +1,4 @@
 // The tokens that the grammar expects at a place: the head of an abstraction, another atom, a closing bracket.
-ghost use Rattle.std.specs.Prelude.{◌≡◌, ℕ, ◌≤◌, length};
 ghost use Rattle.formula.specs.Parsing.{Expected, Taken, Bindered, Headed, Follows, Closed};
 
 use text::fault::TextFault;
@@ -15,7 +14,7 @@ pub struct Head<'a> {
 
 // The token that has to stand here, where the text may not end.
 pub fn expected<'a>(lexer: &Lexer<'a>, from: usize) -> Result<Lexeme<'a>, TextFault>
-    ensures { from ≤ length lexer.now.text.now → Expected lexer.now.text.now from result }
+    ensures { Expected lexer.now.text.now from result }
 {
     lexer
         .next(from)?
@@ -29,7 +28,7 @@ fn take<'a, T: Drop, F: FnOnce(Token<'a>) -> Option<T>>(
     wanted: F,
 ) -> Result<(T, usize), TextFault>
     requires { F.IsAlwaysCallable wanted }
-    ensures { from ≤ length lexer.now.text.now → Taken (F.post wanted) lexer.now.text.now from result }
+    ensures { Taken (F.post wanted) lexer.now.text.now from result }
 {
     let found = expected(lexer, from)?;
     let made = wanted(found.token).ok_or(TextFault::Misplaced(found.at))?;
@@ -38,7 +37,7 @@ fn take<'a, T: Drop, F: FnOnce(Token<'a>) -> Option<T>>(
 
 // The name and the dot of a binder, whose `\` has been read.
 fn binder<'a>(lexer: &Lexer<'a>, from: usize) -> Result<Head<'a>, TextFault>
-    ensures { from ≤ length lexer.now.text.now → Bindered lexer.now.text.now from result }
+    ensures { Bindered lexer.now.text.now from result }
 {
     let (name, dot) = take(lexer, from, |token| match token {
         Token::Name(name) => Some(name),
@@ -53,7 +52,7 @@ fn binder<'a>(lexer: &Lexer<'a>, from: usize) -> Result<Head<'a>, TextFault>
 
 // The head of an abstraction, if one begins here.
 pub fn abstraction_head<'a>(lexer: &Lexer<'a>, from: usize) -> Result<Option<Head<'a>>, TextFault>
-    ensures { from ≤ length lexer.now.text.now → Headed lexer.now.text.now from result }
+    ensures { Headed lexer.now.text.now from result }
 {
     let Some(found) = lexer.next(from)? else {
         return Ok(None);
@@ -67,7 +66,7 @@ pub fn abstraction_head<'a>(lexer: &Lexer<'a>, from: usize) -> Result<Option<Hea
 
 // Whether another atom of an application follows.
 pub fn follows(lexer: &Lexer, from: usize) -> Result<bool, TextFault>
-    ensures { from ≤ length lexer.now.text.now → Follows lexer.now.text.now from result }
+    ensures { Follows lexer.now.text.now from result }
 {
     let Some(found) = lexer.next(from)? else {
         return Ok(false);
@@ -80,7 +79,7 @@ pub fn follows(lexer: &Lexer, from: usize) -> Result<bool, TextFault>
 
 // The bracket that closes an expression: where it ends.
 pub fn closing(lexer: &Lexer, from: usize) -> Result<usize, TextFault>
-    ensures { from ≤ length lexer.now.text.now → Closed lexer.now.text.now from result }
+    ensures { Closed lexer.now.text.now from result }
 {
     let (_, end) = take(lexer, from, |token| match token {
         Token::Close => Some(()),

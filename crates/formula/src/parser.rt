@@ -4,7 +4,7 @@ ghost use Rattle.std.specs.Prelude.{◌≡◌, ℕ, ◌+◌, ◌*◌, ◌^◌, �
 ghost use Rattle.catalogue.specs.Names.{Name};
 ghost use Rattle.catalogue.specs.Entries.{Entry};
 ghost use Rattle.formula.specs.Names.{Known};
-ghost use Rattle.formula.specs.Parsing.{names_in, Leaf, Settled, Unfiled, Ready, Ended, Covered, BlamesExpression, BlamesApplication, BlamesNext, Parsed, NotParsed};
+ghost use Rattle.formula.specs.Parsing.{names_in, Leaf, Settled, Unfiled, Ended, Covered, BlamesExpression, BlamesApplication, BlamesNext, Parsed, NotParsed};
 ghost use Rattle.grammar.specs.Grammar.{expression as anExpression, application as anApplication, atom as anAtom};
 
 use crate::expected::{abstraction_head, closing, expected, follows};
@@ -32,6 +32,7 @@ pub struct Reader<'a, C> {
     pub lexer: Lexer<'a>,
     pub catalogue: &'a C,
     pub filed: u16,
+    ghost short: { 2 * length lexer.text.now < 2 ^ 64 },
 }
 
 impl<'a, C: Catalogue> Reader<'a, C> {
@@ -77,7 +78,6 @@ impl<'a, C: Catalogue> Reader<'a, C> {
         scope: &Scope<'_, 'a>,
         out: &mut [TermNode],
     ) -> Result<Reach, TextFault>
-        requires { Ready self.now.lexer.text.now from }
         ensures { MatchResult result (λ q. Ended anExpression self.now.lexer.text.now (C.entries self.now.catalogue.now) self.now.filed (names_in scope.now) out.old out.new from q) (λ f. BlamesExpression self.now.lexer.text.now from f) }
     {
         let Some(head) = abstraction_head(&self.lexer, from)? else {
@@ -100,7 +100,6 @@ impl<'a, C: Catalogue> Reader<'a, C> {
         scope: &Scope<'_, 'a>,
         out: &mut [TermNode],
     ) -> Result<Reach, TextFault>
-        requires { Ready self.now.lexer.text.now from }
         ensures { MatchResult result (λ q. Ended anApplication self.now.lexer.text.now (C.entries self.now.catalogue.now) self.now.filed (names_in scope.now) out.old out.new from q) (λ f. BlamesApplication self.now.lexer.text.now from f) }
     {
         let mut reach = self.atom(from, &*scope, &mut *out)?;
@@ -125,7 +124,6 @@ impl<'a, C: Catalogue> Reader<'a, C> {
         scope: &Scope<'_, 'a>,
         out: &mut [TermNode],
     ) -> Result<Reach, TextFault>
-        requires { Ready self.now.lexer.text.now from }
         ensures { MatchResult result (λ q. Covered anAtom self.now.lexer.text.now (C.entries self.now.catalogue.now) self.now.filed (names_in scope.now) out.old out.new from q) (λ f. BlamesApplication self.now.lexer.text.now from f × BlamesNext self.now.lexer.text.now from f) }
     {
         let found = expected(&self.lexer, from)?;
@@ -160,7 +158,6 @@ impl<'a, C: Catalogue> Reader<'a, C> {
 
     // The whole text as one expression.
     pub fn whole(&self, out: &mut [TermNode]) -> Result<Reach, TextFault>
-        requires { 2 * length self.now.lexer.text.now < 2 ^ 64 }
         ensures { MatchResult result (λ q. Parsed self.now.lexer.text.now (C.entries self.now.catalogue.now) self.now.filed out.old out.new q) (λ f. NotParsed self.now.lexer.text.now f) }
     {
         self.lexer.scan()?;

@@ -8,26 +8,26 @@ use Rattle.formula.proofs.Tokens.{blames_end, blames_other, blames_later, binder
 use Rattle.formula.proofs.expected.binder.Goals as goal
 
 pub returns-in_err-name : goal.returns-in_err-name
-returns-in_err-name c h =
+returns-in_err-name c =
     let p = err_from_is_err_and c.from_residual.result c.from_residual.ensures.1 in
     rw (p.1, p.2) (λ ts r k. ⊎_elim (λ e. blames_end (binder k) ts _ _ e tt refl)
     (λ s. blames_other (binder k) ts _ _ s.0 s.1 s.2 s.3 s.4 tt (binder_stuck k s.0 s.1 (λ v e. let m = s.5 in search rules)))
-    (c.in_err-name.ensures h ts r))
+    (c.in_err-name.ensures ts r))
 
 pub returns-in_err-end : goal.returns-in_err-end
-returns-in_err-end c h =
+returns-in_err-end c =
     let p = err_from_is_err_and c.from_residual-in_err-end.result c.from_residual-in_err-end.ensures.1 in
-    let name = c.in_ok-name.ensures h in
+    let name = c.in_ok-name.ensures in
     let is : name.0 ≡ Name c.in_ok-name.name = search rules in
     rw (p.1, p.2) (λ ts r k. blames_later _ _ _ _ name.2 (binder k) _ (λ o. ap (λ y. step (binder k) (sign_of y) o) is) ts r
     (λ o us r. ⊎_elim (λ e. blames_end (before_dot c.in_ok-name.name.now o k) us _ _ e tt refl)
     (λ s. blames_other (before_dot c.in_ok-name.name.now o k) us _ _ s.0 s.1 s.2 s.3 s.4 tt (dot_stuck _ _ k s.0 s.1 (λ e. let m = s.5 in search rules)))
-    (c.in_err-end.ensures name.2.within us r)))
+    (c.in_err-end.ensures us r)))
 
 pub returns : goal.returns
-returns c h =
-    let name = c.in_ok-name.ensures h in
-    let dot = c.in_ok-end.ensures name.2.within in
+returns c =
+    let name = c.in_ok-name.ensures in
+    let dot = c.in_ok-end.ensures in
     let is : name.0 ≡ Name c.in_ok-name.name = search rules in
     let then : dot.0 ≡ Dot = search rules in
     binder_read _ _ _ _ _ (rw is at name.2) (rw then at dot.2)

@@ -3,8 +3,8 @@ use Rattle.std.proofs.lemmas.Result.{MatchResult-weaker}
 use Rattle.formula.proofs.Wholes.{parsed_part}
 use Rattle.formula.proofs.reader.parse.Goals as goal
 
-pub whole-requires : goal.whole-requires
-whole-requires g c = let same = ap length c.new.ensures in omega (arith, same)
+pub invariant_of-reader : goal.invariant_of-reader
+invariant_of-reader g c = let same = ap length c.new.ensures in omega (arith, same)
 
 pub returns : goal.returns
 returns g c = rw c.new.ensures at (MatchResult-weaker c.whole.result c.whole.ensures (λ q e. parsed_part _ _ _ _ _ _ q c.min-room.ensures e) (λ f b. b))

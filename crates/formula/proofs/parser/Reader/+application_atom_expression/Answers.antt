@@ -21,13 +21,13 @@ pub application-returns-in_err-follows : goal.application-returns-in_err-follows
 application-returns-in_err-follows g t c =
     let p = err_from_is_err_and c.from_residual-in_err-follows.result c.from_residual-in_err-follows.ensures.1 in
     let sofar = c.atoms.invariant.1 c.args.out.now (omega arith) (covered_application _ _ _ _ _ _ _ _ c.in_ok-reach.ensures) in
-    rw (p.1, p.2) (λ ts r nl k. let m = sofar.made ts r in absurd (c.in_err-follows.ensures sofar.advance.within m.rest m.remains))
+    rw (p.1, p.2) (λ ts r nl k. let m = sofar.made ts r in absurd (c.in_err-follows.ensures m.rest m.remains))
 
 pub application-returns-in_err-next : goal.application-returns-in_err-next
 application-returns-in_err-next g t c =
     let p = err_from_is_err_and c.from_residual-in_err-next.result c.from_residual-in_err-next.ensures.1 in
     let sofar = c.atoms.invariant.1 c.args.out.now (omega arith) (covered_application _ _ _ _ _ _ _ _ c.in_ok-reach.ensures) in
-    let goes = subst (λ b. Follows c.args.self.now.lexer.text.now c.atoms.reach.end (Ok b)) c.if-branch.true (c.in_ok-follows.ensures sofar.advance.within) in
+    let goes = subst (λ b. Follows c.args.self.now.lexer.text.now c.atoms.reach.end (Ok b)) c.if-branch.true c.in_ok-follows.ensures in
     rw (p.1, p.2) (blames_more _ _ _ _ _ _ _ _ _ sofar.made goes c.in_err-next.ensures.1)
 
 pub application-overflow_add-reach : goal.application-overflow_add-reach
@@ -60,31 +60,31 @@ application-returns g t c =
     let sofar = c.atoms.invariant.1 c.args.out.now (omega arith) (covered_application _ _ _ _ _ _ _ _ c.in_ok-reach.ensures) in
     record {
       covered = sofar;
-      ends = subst (λ b. Follows c.args.self.now.lexer.text.now c.atoms.reach.end (Ok b)) c.if-branch.false (c.in_ok-follows.ensures sofar.advance.within);
+      ends = subst (λ b. Follows c.args.self.now.lexer.text.now c.atoms.reach.end (Ok b)) c.if-branch.false c.in_ok-follows.ensures;
     }
 
 pub atom-returns-in_err-found : goal.atom-returns-in_err-found
 atom-returns-in_err-found g t c =
     let p = err_from_is_err_and c.from_residual.result c.from_residual.ensures.1 in
-    let none = c.in_err-found.ensures c.requires.inside in
+    let none = c.in_err-found.ensures in
     rw (p.1, p.2) (λ ts r nl k. nothing_starts _ _ _ (none ts r) k, λ ts r go f k. absurd (nothing_follows _ (none ts r).0 go))
 
 pub atom-returns-in_err-inner-in-Open : goal.atom-returns-in_err-inner-in-Open
 atom-returns-in_err-inner-in-Open g t c =
     let p = err_from_is_err_and c.from_residual-in_err-inner-in-Open.result c.from_residual-in_err-inner-in-Open.ensures.1 in
-    let o = reads_sign _ _ _ (c.in_ok-found.ensures c.requires.inside) _ (ap sign_of c.in-Open.is) in
+    let o = reads_sign _ _ _ c.in_ok-found.ensures _ (ap sign_of c.in-Open.is) in
     rw (p.1, p.2) (blames_inside _ _ _ _ o c.in_err-inner-in-Open.ensures)
 
 pub atom-returns-in_err-end-in-Open : goal.atom-returns-in_err-end-in-Open
 atom-returns-in_err-end-in-Open g t c =
     let p = err_from_is_err_and c.from_residual-in_err-end-in-Open.result c.from_residual-in_err-end-in-Open.ensures.1 in
-    let o = reads_sign _ _ _ (c.in_ok-found.ensures c.requires.inside) _ (ap sign_of c.in-Open.is) in
+    let o = reads_sign _ _ _ c.in_ok-found.ensures _ (ap sign_of c.in-Open.is) in
     let e = c.in_ok-inner-in-Open.ensures in
-    rw (p.1, p.2) (blames_open _ _ _ _ _ _ _ _ _ _ o e.covered.made (λ ts r. c.in_err-end-in-Open.ensures e.covered.advance.within ts r (e.ends ts r)))
+    rw (p.1, p.2) (blames_open _ _ _ _ _ _ _ _ _ _ o e.covered.made (λ ts r. c.in_err-end-in-Open.ensures ts r (e.ends ts r)))
 
 pub atom-returns-in-Name : goal.atom-returns-in-Name
 atom-returns-in-Name g t c =
-    let found = c.in_ok-found.ensures c.requires.inside in
+    let found = c.in_ok-found.ensures in
     record {
       advance = record { less = found.less; within = found.within; small = omega (arith, found.less) };
       made = made_name _ _ _ _ _ _ _ c.in_ok-found.found c.in-Name.name _ found c.in-Name.is c.settle-unknown.ensures;
@@ -92,7 +92,7 @@ atom-returns-in-Name g t c =
 
 pub atom-returns-in-Reference : goal.atom-returns-in-Reference
 atom-returns-in-Reference g t c =
-    let found = c.in_ok-found.ensures c.requires.inside in
+    let found = c.in_ok-found.ensures in
     record {
       advance = record { less = found.less; within = found.within; small = omega (arith, found.less) };
       made = made_reference _ _ _ _ _ _ _ c.in_ok-found.found c.in-Reference.number _ found c.in-Reference.is c.put.ensures c.unfiled-unfiled.ensures;
@@ -100,13 +100,13 @@ atom-returns-in-Reference g t c =
 
 pub atom-returns-in_ok-end-in-Open : goal.atom-returns-in_ok-end-in-Open
 atom-returns-in_ok-end-in-Open g t c =
-    let o = reads_sign _ _ _ (c.in_ok-found.ensures c.requires.inside) _ (ap sign_of c.in-Open.is) in
+    let o = reads_sign _ _ _ c.in_ok-found.ensures _ (ap sign_of c.in-Open.is) in
     let e = c.in_ok-inner-in-Open.ensures in
-    covered_group _ _ _ _ _ _ _ _ _ _ o e (c.in_ok-end-in-Open.ensures e.covered.advance.within)
+    covered_group _ _ _ _ _ _ _ _ _ _ o e c.in_ok-end-in-Open.ensures
 
 pub atom-returns-in_default : goal.atom-returns-in_default
 atom-returns-in_default g t c =
-    let found = c.in_ok-found.ensures c.requires.inside in
+    let found = c.in_ok-found.ensures in
     let rest = c.in_default in (
       λ ts r nl k. blames_here _ _ _ found (start k) ts tt (start_stuck k _ _ (not_lambda _ _ _ found ts r nl) rest.not-Name rest.not-Reference rest.not-Open) r,
       λ ts r go h k. blames_here _ _ _ found (after h k) ts tt (after_stuck h k _ _ (not_close _ _ _ found ts r go) rest.not-Name rest.not-Reference rest.not-Open) r,
@@ -115,20 +115,20 @@ atom-returns-in_default g t c =
 pub expression-returns-in_err-head : goal.expression-returns-in_err-head
 expression-returns-in_err-head g t c =
     let p = err_from_is_err_and c.from_residual.result c.from_residual.ensures.1 in
-    rw (p.1, p.2) (c.in_err-head.ensures c.requires.inside)
+    rw (p.1, p.2) c.in_err-head.ensures
 
 pub expression-returns-in_default : goal.expression-returns-in_default
 expression-returns-in_default g t c =
-    let n = rw c.in_default.is at (c.in_ok-head.ensures c.requires.inside) in
+    let n = rw c.in_default.is at c.in_ok-head.ensures in
     MatchResult-weaker c.application.result c.application.ensures (λ q e. ended_expression _ _ _ _ _ _ _ q e) (λ f b ts r k. b ts r (n ts r) k)
 
 pub expression-returns-in_err-body : goal.expression-returns-in_err-body
 expression-returns-in_err-body g t c =
     let p = err_from_is_err_and c.from_residual-in_err-body.result c.from_residual-in_err-body.ensures.1 in
-    let h = rw c.in-Some.is at (c.in_ok-head.ensures c.requires.inside) in
+    let h = rw c.in-Some.is at c.in_ok-head.ensures in
     rw (p.1, p.2) (blames_body _ _ c.in-Some.head _ h c.in_err-body.ensures)
 
 pub expression-returns : goal.expression-returns
 expression-returns g t c =
-    let h = rw c.in-Some.is at (c.in_ok-head.ensures c.requires.inside) in
+    let h = rw c.in-Some.is at c.in_ok-head.ensures in
     ended_abstraction _ _ _ _ _ c.put.new.out c.expression.new.out _ _ c.in-Some.head _ c.min-start.result h c.put.ensures (λ some. omega (arith, c.min-start.ensures)) (omega arith) (written_end c.min-start.result c.put.new.out c.expression.new.out) (rw (part_end c.min-start.result c.put.new.out) at c.in_ok-body.ensures)
