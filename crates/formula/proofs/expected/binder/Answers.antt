@@ -1,5 +1,5 @@
 use Rattle.std.proofs.Common.{◌≡◌, refl, ap, ⊎_elim, rules}
-use Rattle.std.proofs.lemmas.Result.{err_from_is_err_and}
+use Rattle.text.proofs.Exits.{exit_is}
 use Rattle.text.specs.declared.token.Token.TheVariants.{Name, Dot}
 use Rattle.text.specs.Lexing.{sign_of}
 use Rattle.grammar.specs.Machine.{binder, before_dot, step}
@@ -9,17 +9,16 @@ use Rattle.formula.proofs.expected.binder.Goals as goal
 
 pub returns-in_err-name : goal.returns-in_err-name
 returns-in_err-name c =
-    let p = err_from_is_err_and c.from_residual.result c.from_residual.ensures.1 in
-    rw (p.1, p.2) (λ ts r k. ⊎_elim (λ e. blames_end (binder k) ts _ _ e tt refl)
+    rw (exit_is c.from_residual.result _ c.from_residual.ensures.1) (λ ts r k. ⊎_elim (λ e. blames_end (binder k) ts _ _ e tt refl)
     (λ s. blames_other (binder k) ts _ _ s.0 s.1 s.2 s.3 s.4 tt (binder_stuck k s.0 s.1 (λ v e. let m = s.5 in search rules)))
     (c.in_err-name.ensures ts r))
 
 pub returns-in_err-end : goal.returns-in_err-end
 returns-in_err-end c =
-    let p = err_from_is_err_and c.from_residual-in_err-end.result c.from_residual-in_err-end.ensures.1 in
+    let exit = exit_is c.from_residual-in_err-end.result _ c.from_residual-in_err-end.ensures.1 in
     let name = c.in_ok-name.ensures in
     let is : name.0 ≡ Name c.in_ok-name.name = search rules in
-    rw (p.1, p.2) (λ ts r k. blames_later _ _ _ _ name.2 (binder k) _ (λ o. ap (λ y. step (binder k) (sign_of y) o) is) ts r
+    rw exit (λ ts r k. blames_later _ _ _ _ name.2 (binder k) _ (λ o. ap (λ y. step (binder k) (sign_of y) o) is) ts r
     (λ o us r. ⊎_elim (λ e. blames_end (before_dot c.in_ok-name.name.now o k) us _ _ e tt refl)
     (λ s. blames_other (before_dot c.in_ok-name.name.now o k) us _ _ s.0 s.1 s.2 s.3 s.4 tt (dot_stuck _ _ k s.0 s.1 (λ e. let m = s.5 in search rules)))
     (c.in_err-end.ensures us r)))

@@ -1,5 +1,5 @@
 use Rattle.std.proofs.Common.{ap}
-use Rattle.std.proofs.lemmas.Result.{err_from_is_err_and}
+use Rattle.text.proofs.Exits.{exit_is}
 use Rattle.text.specs.Lexing.{sign_of}
 use Rattle.text.proofs.Ahead.{rest_none, rest_refused}
 use Rattle.formula.proofs.Signs.{closing_is}
@@ -8,8 +8,7 @@ use Rattle.formula.proofs.expected.follows.Goals as goal
 
 pub returns-in_err-found : goal.returns-in_err-found
 returns-in_err-found c =
-    let p = err_from_is_err_and c.from_residual.result c.from_residual.ensures.1 in
-    rw p.1 (λ ts r. rest_refused c.args.lexer.now.text.now c.args.from ts r _ c.in_err-found.ensures)
+    rw (exit_is c.from_residual.result _ c.from_residual.ensures.1) (λ ts r. rest_refused c.args.lexer.now.text.now c.args.from ts r _ c.in_err-found.ensures)
 
 pub returns-in_default : goal.returns-in_default
 returns-in_default c = λ ts r. nothing_ends ts (rest_none _ _ ts r _ c.in_default.is c.in_ok-found.ensures)

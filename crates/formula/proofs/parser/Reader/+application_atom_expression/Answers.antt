@@ -1,5 +1,6 @@
 use Rattle.std.proofs.Common.{Ok, refl, ap, subst, arith}
-use Rattle.std.proofs.lemmas.Result.{err_from_is_err_and, MatchResult-weaker}
+use Rattle.std.proofs.lemmas.Result.{MatchResult-weaker}
+use Rattle.text.proofs.Exits.{exit_is}
 use Rattle.text.specs.Lexing.{sign_of}
 use Rattle.text.proofs.Ahead.{next_advances}
 use Rattle.grammar.specs.Machine.{start, after}
@@ -14,21 +15,20 @@ use Rattle.formula.proofs.parser.Reader.+application_atom_expression.Goals as go
 
 pub application-returns-in_err-reach : goal.application-returns-in_err-reach
 application-returns-in_err-reach g t c =
-    let p = err_from_is_err_and c.from_residual.result c.from_residual.ensures.1 in
-    rw (p.1, p.2) c.in_err-reach.ensures.0
+    rw (exit_is c.from_residual.result _ c.from_residual.ensures.1) c.in_err-reach.ensures.0
 
 pub application-returns-in_err-follows : goal.application-returns-in_err-follows
 application-returns-in_err-follows g t c =
-    let p = err_from_is_err_and c.from_residual-in_err-follows.result c.from_residual-in_err-follows.ensures.1 in
+    let exit = exit_is c.from_residual-in_err-follows.result _ c.from_residual-in_err-follows.ensures.1 in
     let sofar = c.atoms.invariant.1 c.args.out.now (omega arith) (covered_application _ _ _ _ _ _ _ _ c.in_ok-reach.ensures) in
-    rw (p.1, p.2) (λ ts r nl k. let m = sofar.made ts r in absurd (c.in_err-follows.ensures m.rest m.remains))
+    rw exit (λ ts r nl k. let m = sofar.made ts r in absurd (c.in_err-follows.ensures m.rest m.remains))
 
 pub application-returns-in_err-next : goal.application-returns-in_err-next
 application-returns-in_err-next g t c =
-    let p = err_from_is_err_and c.from_residual-in_err-next.result c.from_residual-in_err-next.ensures.1 in
+    let exit = exit_is c.from_residual-in_err-next.result _ c.from_residual-in_err-next.ensures.1 in
     let sofar = c.atoms.invariant.1 c.args.out.now (omega arith) (covered_application _ _ _ _ _ _ _ _ c.in_ok-reach.ensures) in
     let goes = subst (λ b. Follows c.args.self.now.lexer.text.now c.atoms.reach.end (Ok b)) c.if-branch.true c.in_ok-follows.ensures in
-    rw (p.1, p.2) (blames_more _ _ _ _ _ _ _ _ _ sofar.made goes c.in_err-next.ensures.1)
+    rw exit (blames_more _ _ _ _ _ _ _ _ _ sofar.made goes c.in_err-next.ensures.1)
 
 pub application-overflow_add-reach : goal.application-overflow_add-reach
 application-overflow_add-reach g t c = let a = c.atoms.invariant.0 in omega (arith, a.small, a.within, a.less)
@@ -65,22 +65,22 @@ application-returns g t c =
 
 pub atom-returns-in_err-found : goal.atom-returns-in_err-found
 atom-returns-in_err-found g t c =
-    let p = err_from_is_err_and c.from_residual.result c.from_residual.ensures.1 in
+    let exit = exit_is c.from_residual.result _ c.from_residual.ensures.1 in
     let none = c.in_err-found.ensures in
-    rw (p.1, p.2) (λ ts r nl k. nothing_starts _ _ _ (none ts r) k, λ ts r go f k. absurd (nothing_follows _ (none ts r).0 go))
+    rw exit (λ ts r nl k. nothing_starts _ _ _ (none ts r) k, λ ts r go f k. absurd (nothing_follows _ (none ts r).0 go))
 
 pub atom-returns-in_err-inner-in-Open : goal.atom-returns-in_err-inner-in-Open
 atom-returns-in_err-inner-in-Open g t c =
-    let p = err_from_is_err_and c.from_residual-in_err-inner-in-Open.result c.from_residual-in_err-inner-in-Open.ensures.1 in
+    let exit = exit_is c.from_residual-in_err-inner-in-Open.result _ c.from_residual-in_err-inner-in-Open.ensures.1 in
     let o = reads_sign _ _ _ c.in_ok-found.ensures _ (ap sign_of c.in-Open.is) in
-    rw (p.1, p.2) (blames_inside _ _ _ _ o c.in_err-inner-in-Open.ensures)
+    rw exit (blames_inside _ _ _ _ o c.in_err-inner-in-Open.ensures)
 
 pub atom-returns-in_err-end-in-Open : goal.atom-returns-in_err-end-in-Open
 atom-returns-in_err-end-in-Open g t c =
-    let p = err_from_is_err_and c.from_residual-in_err-end-in-Open.result c.from_residual-in_err-end-in-Open.ensures.1 in
+    let exit = exit_is c.from_residual-in_err-end-in-Open.result _ c.from_residual-in_err-end-in-Open.ensures.1 in
     let o = reads_sign _ _ _ c.in_ok-found.ensures _ (ap sign_of c.in-Open.is) in
     let e = c.in_ok-inner-in-Open.ensures in
-    rw (p.1, p.2) (blames_open _ _ _ _ _ _ _ _ _ _ o e.covered.made (λ ts r. c.in_err-end-in-Open.ensures ts r (e.ends ts r)))
+    rw exit (blames_open _ _ _ _ _ _ _ _ _ _ o e.covered.made (λ ts r. c.in_err-end-in-Open.ensures ts r (e.ends ts r)))
 
 pub atom-returns-in-Name : goal.atom-returns-in-Name
 atom-returns-in-Name g t c =
@@ -114,8 +114,7 @@ atom-returns-in_default g t c =
 
 pub expression-returns-in_err-head : goal.expression-returns-in_err-head
 expression-returns-in_err-head g t c =
-    let p = err_from_is_err_and c.from_residual.result c.from_residual.ensures.1 in
-    rw (p.1, p.2) c.in_err-head.ensures
+    rw (exit_is c.from_residual.result _ c.from_residual.ensures.1) c.in_err-head.ensures
 
 pub expression-returns-in_default : goal.expression-returns-in_default
 expression-returns-in_default g t c =
@@ -124,9 +123,9 @@ expression-returns-in_default g t c =
 
 pub expression-returns-in_err-body : goal.expression-returns-in_err-body
 expression-returns-in_err-body g t c =
-    let p = err_from_is_err_and c.from_residual-in_err-body.result c.from_residual-in_err-body.ensures.1 in
+    let exit = exit_is c.from_residual-in_err-body.result _ c.from_residual-in_err-body.ensures.1 in
     let h = rw c.in-Some.is at c.in_ok-head.ensures in
-    rw (p.1, p.2) (blames_body _ _ c.in-Some.head _ h c.in_err-body.ensures)
+    rw exit (blames_body _ _ c.in-Some.head _ h c.in_err-body.ensures)
 
 pub expression-returns : goal.expression-returns
 expression-returns g t c =

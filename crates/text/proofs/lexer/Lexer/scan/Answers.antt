@@ -1,5 +1,5 @@
 use Rattle.std.proofs.Common.{[], ◌++◌, Ok, subst, zero-le}
-use Rattle.std.proofs.lemmas.Result.{err_from_is_err_and}
+use Rattle.text.proofs.Exits.{exit_is}
 use Rattle.text.specs.Lexing.{Next}
 use Rattle.text.specs.Tokens.{here}
 use Rattle.text.proofs.Scanning.{join}
@@ -11,9 +11,9 @@ loop-found-init c = (zero-le, ([], here))
 
 pub returns-in_err-found : goal.returns-in_err-found
 returns-in_err-found c =
-    let p = err_from_is_err_and c.from_residual.result c.from_residual.ensures.1 in
+    let exit = exit_is c.from_residual.result _ c.from_residual.ensures.1 in
     let sofar = c.loop-found.invariant in
-    rw (p.1, p.2) (refused_after _ _ sofar.1.0 _ sofar.1.1 c.in_err-found.ensures)
+    rw exit (refused_after _ _ sofar.1.0 _ sofar.1.1 c.in_err-found.ensures)
 
 pub loop-found-preserved : goal.loop-found-preserved
 loop-found-preserved c =
