@@ -28,8 +28,8 @@ blames_body text from h f head b ts r k =
     blames_from (start k) (start (body w a.1 k)) (token lambda a.0 ∷ (token (name w) a.1 ∷ (token dot a.2 ∷ []))) a.3 ts (length text) f a.4 refl (b a.3 a.5 (body w a.1 k))
 
 -- in a later atom of an application
-pub blames_more : (text : List ℕ) (es : List Entry) (filed cap depth : ℕ) (scope : List Name) (out out' : List TermNode) (at from : ℕ) (r : Reach) (f : TextFault) → ((ts : List Token) → Rest text from ts → Made application text es filed cap depth scope out out' at r ts) → ((ts : List Token) → Rest text r.end ts → GoesOn ts) → BlamesNext text r.end f → BlamesApplication text from f
-blames_more text es filed cap depth scope out out' at from r f made goes b ts rest nl k =
+pub blames_more : (text : List ℕ) (es : List Entry) (filed : ℕ) (scope : List Name) (out out' : List TermNode) (from : ℕ) (r : Reach) (f : TextFault) → ((ts : List Token) → Rest text from ts → Made application text es filed scope out out' r ts) → ((ts : List Token) → Rest text r.end ts → GoesOn ts) → BlamesNext text r.end f → BlamesApplication text from f
+blames_more text es filed scope out out' from r f made goes b ts rest nl k =
     let m = made ts rest in
     blames_from (start k) (after m.tree k) m.front m.rest ts (length text) f m.split (walks m.is k) (b m.rest m.remains (goes m.rest m.remains) m.tree k)
 
@@ -41,8 +41,8 @@ blames_inside text from mid f o b = (
 )
 
 -- brackets that nothing closes
-pub blames_open : (text : List ℕ) (es : List Entry) (filed cap depth : ℕ) (scope : List Name) (out out' : List TermNode) (at from mid : ℕ) (r : Reach) (f : TextFault) → Reads text from opening mid → ((ts : List Token) → Rest text mid ts → Made expression text es filed cap depth scope out out' at r ts) → ((ts : List Token) → Rest text r.end ts → (ts ≡ []) × (f ≡ Misplaced (length text))) → BlamesApplication text from f × BlamesNext text from f
-blames_open text es filed cap depth scope out out' at from mid r f o made closed =
+pub blames_open : (text : List ℕ) (es : List Entry) (filed : ℕ) (scope : List Name) (out out' : List TermNode) (from mid : ℕ) (r : Reach) (f : TextFault) → Reads text from opening mid → ((ts : List Token) → Rest text mid ts → Made expression text es filed scope out out' r ts) → ((ts : List Token) → Rest text r.end ts → (ts ≡ []) × (f ≡ Misplaced (length text))) → BlamesApplication text from f × BlamesNext text from f
+blames_open text es filed scope out out' from mid r f o made closed =
     blames_inside_frames
   where
     stops : (k : Frames) → ((t : Tree) → finish t k ≡ none) → (us : List Token) → Rest text mid us → Blames (start k) us (length text) f

@@ -2,11 +2,11 @@
 use Rattle.std.proofs.Common.{◌≡◌, ℕ, List, [], ◌∷◌, ◌++◌, Some, None, Option, sym, refl, ap, ◌∙◌, subst, append_assoc, arith}
 use Rattle.std.proofs.ByRecursion.{All-append}
 use Rattle.formula.specs.Firsts.{FirstNot, Fails}
-use Rattle.formula.specs.Parsing.{FirstOf}
+use Rattle.std.specs.Option.{option_or}
 
-pub fails_append : {A : Type 0} (P : A → Type 0) (at : A → ℕ) (xs ys : List A) (a b r : Option ℕ) → FirstOf a b r → Fails P at xs a → Fails P at ys b → Fails P at (xs ++ ys) r
-fails_append P at xs ys (Some p) b r e f g =
-    subst (Fails P at (xs ++ ys)) (sym e) (record {
+pub fails_append : {A : Type 0} (P : A → Type 0) (at : A → ℕ) (xs ys : List A) (a b : Option ℕ) → Fails P at xs a → Fails P at ys b → Fails P at (xs ++ ys) (option_or a b)
+fails_append P at xs ys (Some p) b f g =
+    record {
       before = f.before;
       item = f.item;
       rest = f.rest ++ ys;
@@ -14,10 +14,10 @@ fails_append P at xs ys (Some p) b r e f g =
       earlier = f.earlier;
       fails = f.fails;
       stands = f.stands;
-    })
-fails_append P at xs ys None None r e f g = subst (Fails P at (xs ++ ys)) (sym e) (All-append P xs ys f g)
-fails_append P at xs ys None (Some p) r e f g =
-    subst (Fails P at (xs ++ ys)) (sym e) (record {
+    }
+fails_append P at xs ys None None f g = All-append P xs ys f g
+fails_append P at xs ys None (Some p) f g =
+    record {
       before = xs ++ g.before;
       item = g.item;
       rest = g.rest;
@@ -25,14 +25,11 @@ fails_append P at xs ys None (Some p) r e f g =
       earlier = All-append P xs g.before f g.earlier;
       fails = g.fails;
       stands = g.stands;
-    })
+    }
 
-some_not_none : (p : ℕ) → Some p ≡ None → ⊥
-some_not_none p e = let z : ◌≡◌ {A = ℕ} 0 1 = cc in omega arith
-
-pub both_none : (a b r : Option ℕ) → FirstOf a b r → r ≡ None → (a ≡ None) × (b ≡ None)
-both_none (Some p) b r e n = absurd (some_not_none p (sym e ∙ n))
-both_none None b r e n = (refl, sym e ∙ n)
+pub both_none : (a b : Option ℕ) → option_or a b ≡ None → (a ≡ None) × (b ≡ None)
+both_none (Some p) b n = let z : ◌≡◌ {A = ℕ} 0 1 = cc in absurd (omega arith)
+both_none None b n = (refl, n)
 
 -- a list of one item
 pub fails_one : {A : Type 0} (P : A → Type 0) (at : A → ℕ) (x : A) (p : ℕ) → p ≡ at x → (P x → ⊥) → FirstNot P at (x ∷ []) p

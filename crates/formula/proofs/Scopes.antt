@@ -1,22 +1,28 @@
--- The names of the binders in scope, as they stand in a memory.
-use Rattle.std.proofs.Common.{◌≡◌, ℕ, ◌-◌, ◌<◌, ◌≤◌, List, [], map, length, get_or, take, sym, ap, ◌∙◌, subst, arith, Bor}
-use Rattle.std.proofs.lemmas.List.{get_or-reverse, length-reverse, get_or-take, length-take-le, length-map, get_or-map}
+-- The innermost binder that bears a name, looked for outwards.
+use Rattle.std.proofs.Common.{◌≡◌, ℕ, suc, zero, ◌+◌, ◌<◌, ◌≤◌, List, [], ◌∷◌, length, get_or, arith}
+use Prim.Native.Nat.{min}
 use Rattle.catalogue.specs.Names.{Name, Same}
 use Rattle.formula.specs.Names.{Bound}
-use Rattle.formula.specs.Parsing.{scope_of}
 
-scope_length : (b : List (Bor (List ℕ))) (d : ℕ) → d ≤ length b → length (scope_of b d) ≡ d
-scope_length b d h = length-reverse (take d (map (λ x. x.now) b)) ∙ length-take-le d (map (λ x. x.now) b) (omega (arith, length-map b (λ x. x.now)))
+-- none bears a name where there is no binder, nor where the innermost doesn't bear it and none around it does
+pub none_around : (w : Name) (i : ℕ) → Bound [] w i → ⊥
+none_around w i b = omega (arith, b.within)
 
--- a name in scope, counted from within
-pub scope_at : (b : List (Bor (List ℕ))) (d k : ℕ) (e : Bor (List ℕ)) → d ≤ length b → k < d → get_or (scope_of b d) k [] ≡ (get_or b (d - 1 - k) e).now
-scope_at b d k e h l =
-    let long : length (take d (map (λ x. x.now) b)) ≡ d = length-take-le d (map (λ x. x.now) b) (omega (arith, length-map b (λ x. x.now))) in
-    get_or-reverse (take d (map (λ x. x.now) b)) k [] (omega arith) ∙ ap (λ x. get_or (take d (map (λ x. x.now) b)) (x - 1 - k) []) long
-    ∙ get_or-take d (map (λ x. x.now) b) (d - 1 - k) [] (omega arith) ∙ get_or-map (λ x. x.now) b (d - 1 - k) e [] (omega arith)
+pub none_within : (rest : List Name) (v w : Name) → (Same v w → ⊥) → ((j : ℕ) → Bound rest w j → ⊥) → (i : ℕ) → Bound (v ∷ rest) w i → ⊥
+none_within rest v w n m zero b = n b.bears
+none_within rest v w n m (suc j) b = m j (record { within = omega (arith, b.within); bears = b.bears; innermost = λ k h s. b.innermost (suc k) (omega arith) s })
 
-pub bound_within : (b : List (Bor (List ℕ))) (d : ℕ) (w : Name) (k : ℕ) → d ≤ length b → Bound (scope_of b d) w k → k < d
-bound_within b d w k h i = omega (arith, i.within, scope_length b d h)
+-- the innermost bears it
+pub first_bears : (rest : List Name) (v w : Name) → Same v w → Bound (v ∷ rest) w 0
+first_bears rest v w s = record { within = omega arith; bears = s; innermost = λ j h. absurd (omega arith) }
 
-pub bound_at : (b : List (Bor (List ℕ))) (d : ℕ) (w : Name) (k : ℕ) (e : Bor (List ℕ)) → d ≤ length b → k < d → Same (get_or b (d - 1 - k) e).now w → ((j : ℕ) → j < k → Same (get_or (scope_of b d) j []) w → ⊥) → Bound (scope_of b d) w k
-bound_at b d w k e h l s n = record { within = omega (arith, scope_length b d h); bears = subst (λ v. Same v w) (sym (scope_at b d k e h l)) s; innermost = n }
+-- one around it does
+pub bears_around : (rest : List Name) (v w : Name) (i : ℕ) → (Same v w → ⊥) → Bound rest w i → Bound (v ∷ rest) w (suc i)
+bears_around rest v w i n b = record { within = omega (arith, b.within); bears = b.bears; innermost = earlier }
+  where
+    earlier : (j : ℕ) → j < suc i → Same (get_or (v ∷ rest) j []) w → ⊥
+    earlier zero h s = n s
+    earlier (suc j) h s = b.innermost j (omega arith) s
+
+pub counted : (rest : List Name) (v w : Name) (k m : ℕ) → (Same v w → ⊥) → (i : ℕ) × Bound rest w i × (i ≤ 65535 → k ≡ i) → m ≡ min (k + 1) 65535 → (i : ℕ) × Bound (v ∷ rest) w i × (i ≤ 65535 → m ≡ i)
+counted rest v w k m n f e = (suc f.0, bears_around rest v w f.0 n f.1, λ h. omega (arith, f.2 (omega arith)))

@@ -1,7 +1,8 @@
 -- The whole text: what was read of it, and why it is refused.
-use Rattle.std.proofs.Common.{◌≡◌, ℕ, ◌+◌, ◌-◌, ◌<◌, ◌≤◌, List, [], ◌∷◌, ◌++◌, length, take, drop, replicate, Some, None, Ok, Option, sym, refl, ap, ◌∙◌, subst, ⊎_elim, append-nil, arith, Bor}
-use Rattle.std.proofs.lemmas.List.{take_at}
-use Rattle.std.proofs.lemmas.List.Edits.{paste_all}
+use Rattle.std.proofs.Common.{◌≡◌, ℕ, ◌+◌, ◌-◌, ◌<◌, ◌≤◌, List, [], ◌∷◌, ◌++◌, length, take, drop, replicate, Some, None, Ok, Err, Option, Result, MatchResult, sym, refl, ap, ◌∙◌, subst, ⊎_elim, append-nil, append_assoc, arith, length-take}
+use Prim.Native.Nat.{min}
+use Rattle.std.specs.Result.{result_unwrap_or}
+use Rattle.std.proofs.lemmas.List.{take_at, drop-take, drop-drop, take-append-drop}
 use Rattle.std.proofs.str.Laws.{order}
 use Rattle.std.specs.List.{AllByRecursion}
 use Rattle.catalogue.specs.Names.{Name}
@@ -23,6 +24,7 @@ use Rattle.formula.specs.Names.{Bound, Resolves, bound, entered, refers, binds, 
 use Rattle.formula.specs.Parsing.{Ended, BlamesExpression, Parsed, NotParsed, Drafted}
 use Rattle.formula.specs.Reading.{Parses, Accepted, Refuses, no_tokens, no_expression, too_many_nodes, no_room, unknown, not_filed}
 use Rattle.formula.specs.Faults.{says}
+use Rattle.formula.specs.declared.fault.FormulaFault.{FormulaFault}
 use Rattle.formula.specs.declared.fault.FormulaFault.TheVariants as fault
 use Rattle.formula.specs.declared.parser.Reach.{Reach}
 use Rattle.formula.proofs.Steps.{resolved_nodes}
@@ -32,9 +34,9 @@ pub not_parsed : (text : List ℕ) (f : TextFault) → AllTokens text → Blames
 not_parsed text (text_fault.Misplaced p) a b = (a.tokens, a.spelled, first_bad a.tokens (length text) p (b a.tokens a.spelled top))
 not_parsed text (text_fault.Stray p) a b = absurd (b a.tokens a.spelled top)
 
-module _ (text : List ℕ) (es : List Entry) (filed : ℕ) (b b' : List (Bor (List ℕ))) (out out' : List TermNode) (r : Reach) (all : AllTokens text) (e : Ended expression text es filed b b' 0 out out' 0 0 r) where
+module _ (text : List ℕ) (es : List Entry) (filed : ℕ) (out out' : List TermNode) (r : Reach) (all : AllTokens text) (e : Ended expression text es filed [] out out' 0 r) where
   -- the tokens end where the expression does
-  pub parsed : (n : Option Lexeme) → n ≡ None → Next text r.end (Ok n) → Parsed text es filed (length b) out out' r
+  pub parsed : (n : Option Lexeme) → n ≡ None → Next text r.end (Ok n) → Parsed text es filed out out' r
   parsed n none next =
       let m = e.covered.made all.tokens all.spelled in
       let end = rest_none text r.end m.rest m.remains n none next in
@@ -43,8 +45,8 @@ module _ (text : List ℕ) (es : List Entry) (filed : ℕ) (b b' : List (Bor (Li
         parses = record { tokens = all.tokens; spelled = all.spelled; is = subst (λ l. Is expression l m.tree) (sym (m.split ∙ ap (λ l. m.front ++ l) end ∙ append-nil m.front)) m.is };
         count = m.count;
         filing = m.filing;
-        naming = λ h. m.naming (omega arith);
-        writing = λ h u room few. m.writing (omega arith) u (omega arith) (omega arith);
+        naming = m.naming;
+        writing = λ few u room. m.writing (omega arith) u room;
       }
 
   -- a closing bracket that closes nothing
@@ -92,7 +94,7 @@ pub refused_text : (es : List Entry) (filed : ℕ) (text : List ℕ) (room : ℕ
 refused_text es filed text room (text_fault.Stray p) n = no_tokens n
 refused_text es filed text room (text_fault.Misplaced p) n = no_expression n.1 n.2
 
-module _ (text : List ℕ) (es : List Entry) (filed : ℕ) (out out' : List TermNode) (r : Reach) (p : Parsed text es filed 1024 out out' r) where
+module _ (text : List ℕ) (es : List Entry) (filed : ℕ) (out out' : List TermNode) (r : Reach) (p : Parsed text es filed out out' r) where
   few_nodes : r.count ≤ 1024 → nodes p.tree ≤ 1024
   few_nodes h = omega (arith, p.count)
 
@@ -107,10 +109,10 @@ module _ (text : List ℕ) (es : List Entry) (filed : ℕ) (out out' : List Term
 
   pub refused_name : (at : ℕ) → r.count ≤ 1024 → r.count ≤ length out → r.unknown ≡ Some at → Refuses es filed text (length out) (says (fault.Unknown at))
   refused_name at h l e =
-      unknown p.parses (few_nodes h) (fits l) (subst (Fails (Known es) (λ u. u.at) (uses [] p.tree)) e (p.naming (few_nodes h)))
+      unknown p.parses (few_nodes h) (fits l) (subst (Fails (Known es) (λ u. u.at) (uses [] p.tree)) e p.naming)
 
   all_known : r.count ≤ 1024 → r.unknown ≡ None → AllByRecursion (Known es) (uses [] p.tree)
-  all_known h e = subst (Fails (Known es) (λ u. u.at) (uses [] p.tree)) e (p.naming (few_nodes h))
+  all_known h e = subst (Fails (Known es) (λ u. u.at) (uses [] p.tree)) e p.naming
 
   pub refused_reference : (at : ℕ) → r.count ≤ 1024 → r.count ≤ length out → r.unknown ≡ None → r.unfiled ≡ Some at → Refuses es filed text (length out) (says (fault.NotFiled at))
   refused_reference at h l n e =
@@ -118,7 +120,7 @@ module _ (text : List ℕ) (es : List Entry) (filed : ℕ) (out out' : List Term
 
   pub drafted : r.count ≤ 1024 → r.count ≤ length out → length out' ≡ length out → r.unknown ≡ None → r.unfiled ≡ None → Drafted es filed text out' r.count
   drafted h l same n e =
-      let w = p.writing (few_nodes h) n (fits l) (few_nodes h) in
+      let w = p.writing (few_nodes h) n (fits l) in
       let long = resolved_nodes w.1 in
       record {
         term = w.0;
@@ -128,7 +130,7 @@ module _ (text : List ℕ) (es : List Entry) (filed : ℕ) (out out' : List Term
         count = p.count ∙ sym long;
         few = h;
         fits = omega arith;
-        front = ap (λ k. take k out') p.count ∙ ap (take (nodes p.tree)) (w.2 ∙ paste_all out 0 (prefix w.0) (nodes p.tree) (sym long)) ∙ take_at (prefix w.0) (drop (0 + nodes p.tree) out) (nodes p.tree) long;
+        front = ap (λ k. take k out') p.count ∙ ap (take (nodes p.tree)) w.2 ∙ take_at (prefix w.0) (drop (nodes p.tree) out) (nodes p.tree) long;
       }
 
 pub accepted : (es : List Entry) (filed : ℕ) (text : List ℕ) (out out' : List TermNode) (n : ℕ) → Drafted es filed text out n → out' ≡ take n out ++ replicate (length out - n) zero_node → length out' ≡ length out → Accepted es filed text out' n
@@ -142,4 +144,33 @@ accepted es filed text out out' n d e l =
       few = d.few;
       fits = omega (arith, d.fits);
       holds = e ∙ ap (λ m. m ++ replicate (length out - n) zero_node) d.front ∙ ap (λ k. prefix d.term ++ replicate (k - n) zero_node) (sym l);
+    }
+
+no_less : (n : ℕ) → n - 0 ≡ n
+no_less n = omega arith
+
+-- the whole answer: what stands is the draft's term with zeros behind it, or zeros only
+pub answered : (es : List Entry) (filed : ℕ) (text : List ℕ) (room : ℕ) (out out' : List TermNode) (r : Result ℕ FormulaFault) (n : ℕ) → MatchResult r (λ n. Drafted es filed text out n) (λ f. Refuses es filed text room (says f)) → n ≡ result_unwrap_or r 0 → out' ≡ take n out ++ replicate (length out - n) zero_node → length out ≡ room → length out' ≡ length out → MatchResult r (λ n. Accepted es filed text out' n) (λ f. Refuses es filed text room (says f) × (out' ≡ replicate room zero_node))
+answered es filed text room out out' (Ok n) m d e c l k = accepted es filed text out out' n d (subst (λ i. out' ≡ take i out ++ replicate (length out - i) zero_node) e c) k
+answered es filed text room out out' (Err f) m d e c l k = (d, subst (λ i. out' ≡ take i out ++ replicate (length out - i) zero_node) e c ∙ ap (λ i. replicate i zero_node) (no_less (length out) ∙ l))
+
+rest_joined : {X : Type 0} (o : List X) (n s : ℕ) → n ≤ s → drop n (take s o) ++ drop s o ≡ drop n o
+rest_joined o n s h =
+    let m : n + (s - n) ≡ s = omega arith in
+    ap (λ k. drop n (take k o) ++ drop k o) (sym m) ∙ ap (λ l. l ++ drop (n + (s - n)) o) (drop-take n (s - n) o) ∙ ap (λ l. take (s - n) (drop n o) ++ l) (sym (drop-drop (s - n) n o)) ∙ take-append-drop (s - n) (drop n o)
+
+-- what is read into the front of a memory is read into all of it, as far as a term may go
+pub parsed_part : (text : List ℕ) (es : List Entry) (filed : ℕ) (out out' : List TermNode) (s : ℕ) (r : Reach) → s ≡ min (length out) 1024 → Parsed text es filed (take s out) out' r → Parsed text es filed out (out' ++ drop s out) r
+parsed_part text es filed out out' s r e p =
+    record {
+      tree = p.tree;
+      parses = p.parses;
+      count = p.count;
+      filing = p.filing;
+      naming = p.naming;
+      writing = λ few none room.
+          let n = nodes p.tree in
+          let fits : nodes p.tree ≤ length (take s out) = omega (arith, e, length-take s out) in
+          let w = p.writing few none fits in
+          (w.0, w.1, ap (λ l. l ++ drop s out) w.2 ∙ append_assoc (prefix w.0) (drop n (take s out)) (drop s out) ∙ ap (λ l. prefix w.0 ++ l) (rest_joined out n s (omega (arith, e))));
     }

@@ -1,27 +1,31 @@
 -- What the parts of the reader answer: contracts of its own, in the words of grammar and names.
-use Rattle.std.specs.Prelude.{◌≡◌, ℕ, ◌+◌, ◌-◌, ◌*◌, ◌^◌, ◌<◌, ◌≤◌, Bool, true, false, List, [], ◌∷◌, ◌++◌, map, reverse, length, take, Some, None, Ok, Err, Option, Result, ◌≢◌, slice_set}
-use Rattle.std.specs.Borrow.{Bor}
-use Rattle.std.proofs.Math.Seq.{paste}
+use Rattle.std.specs.Prelude.{◌≡◌, ℕ, ◌+◌, ◌-◌, ◌*◌, ◌<◌, ◌≤◌, ◌⊎◌, Bool, true, false, List, [], ◌∷◌, ◌++◌, length, take, drop, Some, None, Ok, Err, Option, Result, ◌≢◌}
 use Rattle.catalogue.specs.Names.{Name}
 use Rattle.catalogue.specs.Entries.{Entry}
 use Rattle.std.specs.List.{AllByRecursion}
 use Rattle.grammar.specs.Grammar.{Tree, named, nodes, Kind, Is, FirstBad}
 use Rattle.grammar.specs.Machine.{Frames, State, start, binder, before_dot, after, Halts}
 use Rattle.term.specs.declared.TermNode.{TermNode}
+use Rattle.term.specs.declared.Symbol.{Symbol}
+use Rattle.term.specs.Symbols.{node_of}
 use Rattle.term.specs.Terms.{Term, prefix}
 use Rattle.text.specs.Tokens.{Sign, Token, token, lambda, dot, closing, name, Rest, Tokens}
-use Rattle.text.specs.Lexing.{NotAllTokens}
+use Rattle.text.specs.Lexing.{Found, NotAllTokens, sign_of}
+use Rattle.text.specs.declared.token.Lexeme.{Lexeme}
+use Rattle.text.specs.declared.token.Token.{Token as Cut}
 use Rattle.text.specs.declared.fault.TextFault.{TextFault}
 use Rattle.text.specs.declared.fault.TextFault.TheVariants.{Stray, Misplaced}
 use Rattle.formula.specs.Firsts.{Fails}
 use Rattle.formula.specs.Names.{Resolves, uses, Known, references, Filed}
 use Rattle.formula.specs.Reading.{Parses, Formula}
 use Rattle.formula.specs.declared.expected.Head.{Head}
+use Rattle.formula.specs.declared.names.Scope.{Scope, Top, Under'}
 use Rattle.formula.specs.declared.parser.Reach.{Reach}
 
--- the names of the first `depth` binders, the innermost first
-abbrev pub scope_of : List (Bor (List ℕ)) → ℕ → List Name
-scope_of binders depth = reverse (take depth (map (λ x. x.now) binders))
+-- the names of the binders in a scope, the innermost first
+abbrev pub names_in : Scope → List Name
+names_in Top = []
+names_in (Under' w p s) = w.now ∷ names_in s
 
 -- no abstraction begins here
 abbrev pub NoLambda : List Token → Type 0
@@ -46,10 +50,15 @@ pub record Reads (text : List ℕ) (from : ℕ) (x : Sign) (end : ℕ) : Type 0 
   pub within : end ≤ length text
   pub reads : (ts : List Token) → Rest text from ts → (o : ℕ) × (us : List Token) × (ts ≡ token x o ∷ us) × Rest text end us
 
--- where the dot of a binder ends
-abbrev pub Dotted : List ℕ → ℕ → Result ℕ TextFault → Type 0
-Dotted text from (Ok end) = Reads text from dot end
-Dotted text from (Err f) = (ts : List Token) → Rest text from ts → (w : Name) (o : ℕ) (k : Frames) → Blames (before_dot w o k) ts (length text) f
+-- the token that has to stand here
+abbrev pub Expected : List ℕ → ℕ → Result Lexeme TextFault → Type 0
+Expected text from (Ok x) = Found text from x
+Expected text from (Err f) = (ts : List Token) → Rest text from ts → (ts ≡ []) × (f ≡ Misplaced (length text))
+
+-- what is made of the token that stands here, and where it ends; if nothing can be made of it, it is misplaced
+abbrev pub Taken : {T : Type 0} → (Cut → Option T → Type 0) → List ℕ → ℕ → Result (T × ℕ) TextFault → Type 0
+Taken Makes text from (Ok r) = (x : Cut) × Makes x (Some r.0) × Reads text from (sign_of x) r.1
+Taken Makes text from (Err f) = (ts : List Token) → Rest text from ts → ((ts ≡ []) × (f ≡ Misplaced (length text))) ⊎ ((x : Cut) × (o : ℕ) × (us : List Token) × (ts ≡ token (sign_of x) o ∷ us) × (f ≡ Misplaced o) × Makes x None)
 
 -- the name and the dot of a binder
 pub record BinderRead (text : List ℕ) (from : ℕ) (h : Head) : Type 0 where
@@ -83,19 +92,15 @@ abbrev pub Closed : List ℕ → ℕ → Result ℕ TextFault → Type 0
 Closed text from (Ok end) = Reads text from closing end
 Closed text from (Err f) = (ts : List Token) → Rest text from ts → Ends ts → (ts ≡ []) × (f ≡ Misplaced (length text))
 
-abbrev pub FirstOf : Option ℕ → Option ℕ → Option ℕ → Type 0
-FirstOf (Some a) other r = r ≡ Some a
-FirstOf None other r = r ≡ other
-
--- the node of a name, where it has a meaning
-abbrev pub Leaf : List Entry → List Name → Name → Option TermNode → Type 0
-Leaf es scope w (Some v) = (t : Term) × (prefix t ≡ v ∷ []) × ((o : ℕ) → Resolves es scope (named w o) t)
+-- what a name means, where it means anything: the term that it is, unless too many binders stand around it
+abbrev pub Leaf : List Entry → List Name → Name → Option Symbol → Type 0
+Leaf es scope w (Some v) = ((o : ℕ) → Known es (record { name = w; at = o; scope = scope })) × (length scope ≤ 65535 → (t : Term) × (prefix t ≡ node_of v ∷ []) × ((o : ℕ) → Resolves es scope (named w o) t))
 Leaf es scope w None = (o : ℕ) → Known es (record { name = w; at = o; scope = scope }) → ⊥
 
 -- a name settled: its node is written where there is room, or its place is answered
-abbrev pub Settled : List Entry → List Name → Name → ℕ → List TermNode → List TermNode → ℕ → Option ℕ → Type 0
-Settled es scope w place out out' at None = (t : Term) × (v : TermNode) × (prefix t ≡ v ∷ []) × ((o : ℕ) → Resolves es scope (named w o) t) × (at < length out → out' ≡ slice_set out at v)
-Settled es scope w place out out' at (Some p) = (p ≡ place) × ((o : ℕ) → Known es (record { name = w; at = o; scope = scope }) → ⊥)
+abbrev pub Settled : List Entry → List Name → Name → ℕ → List TermNode → List TermNode → Option ℕ → Type 0
+Settled es scope w place out out' None = ((o : ℕ) → Known es (record { name = w; at = o; scope = scope })) × (length scope ≤ 65535 → 0 < length out → (t : Term) × ((o : ℕ) → Resolves es scope (named w o) t) × (out' ≡ prefix t ++ drop 1 out))
+Settled es scope w place out out' (Some p) = (p ≡ place) × ((o : ℕ) → Known es (record { name = w; at = o; scope = scope }) → ⊥)
 
 -- where a reference is not filed, its place
 abbrev pub Unfiled : ℕ → ℕ → ℕ → Option ℕ → Type 0
@@ -108,9 +113,9 @@ pub record Advance (text : List ℕ) (from : ℕ) (r : Reach) : Type 0 where
   pub within : r.end ≤ length text
   pub small : r.count + 1 ≤ 2 * (r.end - from)
 
--- The tokens ts from here on begin with one of the kind. Its names are settled where the binders find room (`cap`), and
--- its term is written where the memory has room for it.
-pub record Made (kind : Kind) (text : List ℕ) (es : List Entry) (filed cap depth : ℕ) (scope : List Name) (out out' : List TermNode) (at : ℕ) (r : Reach) (ts : List Token) : Type 0 where
+-- The tokens ts from here on begin with one of the kind. Its names are settled, and its term is written at the front of
+-- the memory where it has room for it.
+pub record Made (kind : Kind) (text : List ℕ) (es : List Entry) (filed : ℕ) (scope : List Name) (out out' : List TermNode) (r : Reach) (ts : List Token) : Type 0 where
   pub tree : Tree
   pub front : List Token
   pub rest : List Token
@@ -119,18 +124,17 @@ pub record Made (kind : Kind) (text : List ℕ) (es : List Entry) (filed cap dep
   pub remains : Rest text r.end rest
   pub count : r.count ≡ nodes tree
   pub filing : Fails (Filed filed) (λ x. x.at) (references tree) r.unfiled
-  pub naming : depth + nodes tree ≤ cap → Fails (Known es) (λ u. u.at) (uses scope tree) r.unknown
-  pub writing : depth + nodes tree ≤ cap → r.unknown ≡ None → at + nodes tree ≤ length out → at + nodes tree ≤ 1024 → (t : Term) × Resolves es scope tree t × (out' ≡ paste out at (prefix t) (nodes tree))
+  pub naming : Fails (Known es) (λ u. u.at) (uses scope tree) r.unknown
+  pub writing : length scope + nodes tree ≤ 65536 → r.unknown ≡ None → nodes tree ≤ length out → (t : Term) × Resolves es scope tree t × (out' ≡ prefix t ++ drop (nodes tree) out)
 
 -- One of the kind was read from here on, over whichever tokens the text has.
-pub record Covered (kind : Kind) (text : List ℕ) (es : List Entry) (filed : ℕ) (binders binders' : List (Bor (List ℕ))) (depth : ℕ) (out out' : List TermNode) (at from : ℕ) (r : Reach) : Type 0 where
+pub record Covered (kind : Kind) (text : List ℕ) (es : List Entry) (filed : ℕ) (scope : List Name) (out out' : List TermNode) (from : ℕ) (r : Reach) : Type 0 where
   pub advance : Advance text from r
-  pub kept : take depth (map (λ x. x.now) binders') ≡ take depth (map (λ x. x.now) binders)
-  pub made : (ts : List Token) → Rest text from ts → Made kind text es filed (length binders) depth (scope_of binders depth) out out' at r ts
+  pub made : (ts : List Token) → Rest text from ts → Made kind text es filed scope out out' r ts
 
 -- the same of an expression or an application, which goes on as far as it can
-pub record Ended (kind : Kind) (text : List ℕ) (es : List Entry) (filed : ℕ) (binders binders' : List (Bor (List ℕ))) (depth : ℕ) (out out' : List TermNode) (at from : ℕ) (r : Reach) : Type 0 where
-  pub covered : Covered kind text es filed binders binders' depth out out' at from r
+pub record Ended (kind : Kind) (text : List ℕ) (es : List Entry) (filed : ℕ) (scope : List Name) (out out' : List TermNode) (from : ℕ) (r : Reach) : Type 0 where
+  pub covered : Covered kind text es filed scope out out' from r
   pub ends : (ts : List Token) → Rest text r.end ts → Ends ts
 
 abbrev pub BlamesExpression : List ℕ → ℕ → TextFault → Type 0
@@ -142,23 +146,15 @@ BlamesApplication text from f = (ts : List Token) → Rest text from ts → NoLa
 abbrev pub BlamesNext : List ℕ → ℕ → TextFault → Type 0
 BlamesNext text from f = (ts : List Token) → Rest text from ts → GoesOn ts → (g : Tree) (k : Frames) → Blames (after g k) ts (length text) f
 
--- what the parts of the reader are called with
-pub record Ready (text : List ℕ) (binders : List (Bor (List ℕ))) (depth at from : ℕ) : Type 0 where
-  pub inside : from ≤ length text
-  pub few : length binders ≤ 65536
-  pub shallow : depth ≤ from
-  pub low : at ≤ 2 * from
-  pub short : 2 * length text < 2 ^ 64
-
--- The whole text was read. Its names are settled where the binders find room, and its term is written where the memory
--- has room for it.
-pub record Parsed (text : List ℕ) (es : List Entry) (filed cap : ℕ) (out out' : List TermNode) (r : Reach) : Type 0 where
+-- The whole text was read. Its names are settled, and its term is written where the memory has room for it, up to 1,024
+-- nodes.
+pub record Parsed (text : List ℕ) (es : List Entry) (filed : ℕ) (out out' : List TermNode) (r : Reach) : Type 0 where
   pub tree : Tree
   pub parses : Parses text tree
   pub count : r.count ≡ nodes tree
   pub filing : Fails (Filed filed) (λ x. x.at) (references tree) r.unfiled
-  pub naming : nodes tree ≤ cap → Fails (Known es) (λ u. u.at) (uses [] tree) r.unknown
-  pub writing : nodes tree ≤ cap → r.unknown ≡ None → nodes tree ≤ length out → nodes tree ≤ 1024 → (t : Term) × Resolves es [] tree t × (out' ≡ paste out 0 (prefix t) (nodes tree))
+  pub naming : Fails (Known es) (λ u. u.at) (uses [] tree) r.unknown
+  pub writing : nodes tree ≤ 1024 → r.unknown ≡ None → nodes tree ≤ length out → (t : Term) × Resolves es [] tree t × (out' ≡ prefix t ++ drop (nodes tree) out)
 
 -- why the text is no expression
 abbrev pub NotParsed : List ℕ → TextFault → Type 0

@@ -1,10 +1,9 @@
 // The tokens that the grammar expects at a place: the head of an abstraction, another atom, a closing bracket.
-ghost use Rattle.std.specs.Prelude.{◌≡◌, ℕ, ◌≤◌, length};
-ghost use Rattle.formula.specs.Parsing.{Dotted, Bindered, Headed, Follows, Closed};
+ghost use Rattle.formula.specs.Parsing.{Expected, Taken, Bindered, Headed, Follows, Closed};
 
 use text::fault::TextFault;
 use text::lexer::Lexer;
-use text::token::Token;
+use text::token::{Lexeme, Token};
 
 // The head of an abstraction: the name that it binds, and where its body begins.
 #[derive(Clone, Copy)]
@@ -13,73 +12,78 @@ pub struct Head<'a> {
     pub end: usize,
 }
 
-// The dot of a binder, whose name has been read: where it ends.
-fn binder_dot(lexer: &Lexer, from: usize) -> Result<usize, TextFault>
-    ensures { from ≤ length lexer.now.text.now → Dotted lexer.now.text.now from result }
+// The token that has to stand here, where the text may not end.
+pub fn expected<'a>(lexer: &Lexer<'a>, from: usize) -> Result<Lexeme<'a>, TextFault>
+    ensures { Expected lexer.now.text.now from result }
 {
-    match lexer.next(from)? {
-        Some(found) => match found.token {
-            Token::Dot => Ok(found.end),
-            _ => Err(TextFault::Misplaced(found.at)),
-        },
-        None => Err(TextFault::Misplaced(lexer.text.len())),
-    }
+    lexer
+        .next(from)?
+        .ok_or(TextFault::Misplaced(lexer.text.len()))
+}
+
+// What `wanted` makes of the token here, and where that token ends; one of which it makes nothing is misplaced.
+fn take<'a, T: Drop, F: FnOnce(Token<'a>) -> Option<T>>(
+    lexer: &Lexer<'a>,
+    from: usize,
+    wanted: F,
+) -> Result<(T, usize), TextFault>
+    requires { F.IsAlwaysCallable wanted }
+    ensures { Taken (F.post wanted) lexer.now.text.now from result }
+{
+    let found = expected(lexer, from)?;
+    let made = wanted(found.token).ok_or(TextFault::Misplaced(found.at))?;
+    Ok((made, found.end))
 }
 
 // The name and the dot of a binder, whose `\` has been read.
 fn binder<'a>(lexer: &Lexer<'a>, from: usize) -> Result<Head<'a>, TextFault>
-    ensures { from ≤ length lexer.now.text.now → Bindered lexer.now.text.now from result }
+    ensures { Bindered lexer.now.text.now from result }
 {
-    match lexer.next(from)? {
-        Some(found) => match found.token {
-            Token::Name(name) => {
-                let end = binder_dot(lexer, found.end)?;
-                Ok(Head { name, end })
-            }
-            _ => Err(TextFault::Misplaced(found.at)),
-        },
-        None => Err(TextFault::Misplaced(lexer.text.len())),
-    }
+    let (name, dot) = take(lexer, from, |token| match token {
+        Token::Name(name) => Some(name),
+        _ => None,
+    })?;
+    let (_, end) = take(lexer, dot, |token| match token {
+        Token::Dot => Some(()),
+        _ => None,
+    })?;
+    Ok(Head { name, end })
 }
 
 // The head of an abstraction, if one begins here.
 pub fn abstraction_head<'a>(lexer: &Lexer<'a>, from: usize) -> Result<Option<Head<'a>>, TextFault>
-    ensures { from ≤ length lexer.now.text.now → Headed lexer.now.text.now from result }
+    ensures { Headed lexer.now.text.now from result }
 {
-    match lexer.next(from)? {
-        Some(found) => match found.token {
-            Token::Lambda => {
-                let head = binder(lexer, found.end)?;
-                Ok(Some(head))
-            }
-            _ => Ok(None),
-        },
-        None => Ok(None),
-    }
+    let Some(found) = lexer.next(from)? else {
+        return Ok(None);
+    };
+    let Token::Lambda = found.token else {
+        return Ok(None);
+    };
+    let head = binder(lexer, found.end)?;
+    Ok(Some(head))
 }
 
 // Whether another atom of an application follows.
 pub fn follows(lexer: &Lexer, from: usize) -> Result<bool, TextFault>
-    ensures { from ≤ length lexer.now.text.now → Follows lexer.now.text.now from result }
+    ensures { Follows lexer.now.text.now from result }
 {
-    match lexer.next(from)? {
-        Some(found) => match found.token {
-            Token::Close => Ok(false),
-            _ => Ok(true),
-        },
-        None => Ok(false),
+    let Some(found) = lexer.next(from)? else {
+        return Ok(false);
+    };
+    match found.token {
+        Token::Close => Ok(false),
+        _ => Ok(true),
     }
 }
 
 // The bracket that closes an expression: where it ends.
 pub fn closing(lexer: &Lexer, from: usize) -> Result<usize, TextFault>
-    ensures { from ≤ length lexer.now.text.now → Closed lexer.now.text.now from result }
+    ensures { Closed lexer.now.text.now from result }
 {
-    match lexer.next(from)? {
-        Some(found) => match found.token {
-            Token::Close => Ok(found.end),
-            _ => Err(TextFault::Misplaced(found.at)),
-        },
-        None => Err(TextFault::Misplaced(lexer.text.len())),
-    }
+    let (_, end) = take(lexer, from, |token| match token {
+        Token::Close => Some(()),
+        _ => None,
+    })?;
+    Ok(end)
 }

@@ -6,12 +6,15 @@ ghost use Rattle.formula.specs.Parsing.{Drafted, Parsed, NotParsed};
 ghost use Rattle.formula.specs.Reading.{Accepted, Refuses};
 
 use crate::fault::FormulaFault;
-use crate::memory::{MOST_NODES, clear};
+use crate::memory::clear;
 use crate::parser::{Reach, Reader};
 use catalogue::interface::Catalogue;
 use term::TermNode;
 use text::fault::TextFault;
 use text::lexer::Lexer;
+
+// The most nodes that a term may have.
+const MOST_NODES: usize = 1024;
 
 // Reads the text as an expression, and writes its term as far as there is room.
 fn parse<'a, C: Catalogue>(
@@ -20,21 +23,15 @@ fn parse<'a, C: Catalogue>(
     text: &'a [u8],
     memory: &mut [TermNode],
 ) -> Result<Reach, TextFault>
-    ensures { MatchResult result (λ q. Parsed text.now (C.entries catalogue.now) filed 1024 memory.old memory.new q) (λ f. NotParsed text.now f) }
+    ensures { MatchResult result (λ q. Parsed text.now (C.entries catalogue.now) filed memory.old memory.new q) (λ f. NotParsed text.now f) }
 {
     let reader = Reader {
         lexer: Lexer::new(text),
         catalogue,
         filed,
     };
-    let mut binders = [text; MOST_NODES];
-    let reply = reader.whole(&mut binders, memory);
-    let Reader {
-        lexer: _,
-        catalogue: _,
-        filed: _,
-    } = reader;
-    reply
+    let room = memory.len().min(MOST_NODES);
+    reader.whole(&mut memory[..room])
 }
 
 // Reads the text as a formula, whose term then stands at the front of the memory.
@@ -72,14 +69,7 @@ pub fn read<C: Catalogue>(
 ) -> Result<usize, FormulaFault>
     ensures { MatchResult result (λ n. Accepted (C.entries catalogue.now) filed text.now memory.new n) (λ f. Refuses (C.entries catalogue.now) filed text.now (length memory.old) (says f) × (memory.new ≡ replicate (length memory.old) zero_node)) }
 {
-    match draft(catalogue, filed, text, memory) {
-        Ok(count) => {
-            clear(memory, count);
-            Ok(count)
-        }
-        Err(fault) => {
-            clear(memory, 0);
-            Err(fault)
-        }
-    }
+    let read = draft(catalogue, filed, text, memory);
+    clear(memory, read.unwrap_or(0));
+    read
 }

@@ -91,6 +91,14 @@ none_left : {p n : ℕ} {vs : List Token} → Scans p [] vs n [] → vs ≡ []
 none_left here = refl
 none_left (word f s) = absurd (nothing_named f)
 
+-- a reading goes forward
+forward : {o p : ℕ} {bs cs : List ℕ} {ts : List Token} → Scans o bs ts p cs → o ≤ p
+forward here = omega arith
+forward (space e r) = omega (arith, forward r)
+forward (mark e r) = omega (arith, forward r)
+forward (word w r) = omega (arith, forward r)
+forward (number e w r) = omega (arith, forward r)
+
 -- a text has one list of tokens at most
 pub one_reading : (text : List ℕ) (ts us : List Token) → Tokens text ts → Tokens text us → us ≡ ts
 one_reading text ts us s r = let o = ahead r s in sym (o.1 ∙ ap (λ l. us ++ l) (none_left o.2) ∙ append-nil us)
@@ -112,7 +120,7 @@ refused_after text at ts (fault.Misplaced p) s n = absurd n
 -- What the next token is to the tokens that are left.
 module _ (text : List ℕ) (o : ℕ) (ts : List Token) (r : Rest text o ts) where
   pub rest_none : (n : Option Lexeme) → n ≡ None → Next text o (Ok n) → ts ≡ []
-  rest_none n e s = let on = ahead (subst (λ m. Next text o (Ok m)) e s) r in on.1 ∙ none_left on.2
+  rest_none n e s = let on = ahead (subst (λ m. Next text o (Ok m)) e s (forward r)) r in on.1 ∙ none_left on.2
 
   pub rest_some : (n : Option Lexeme) (x : Lexeme) → n ≡ Some x → Next text o (Ok n) → (us : List Token) × (ts ≡ token (sign_of x.token) x.at ∷ us) × Rest text x.end us
   rest_some n x e s = ahead (subst (λ m. Next text o (Ok m)) e s).scans r

@@ -1,4 +1,5 @@
 mod Marks
+pub mod Exits
 pub mod ByteFacts
 mod Spaces
 pub mod Scanning

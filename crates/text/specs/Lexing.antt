@@ -39,8 +39,9 @@ Starts text o (Ok x) = Found text o x
 Starts text o (Err (Stray p)) = (p ≡ o) × Strays (drop o text)
 Starts text o (Err (Misplaced p)) = ⊥
 
+-- the next token from o on, or the first byte or run that is none; where there is neither, spaces alone are left
 abbrev pub Next : List ℕ → ℕ → Result (Option Lexeme) TextFault → Type 0
-Next text o (Ok None) = Scans o (drop o text) [] (length text) []
+Next text o (Ok None) = o ≤ length text → Scans o (drop o text) [] (length text) []
 Next text o (Ok (Some x)) = Found text o x
 Next text o (Err (Stray p)) = FirstStray text o [] p
 Next text o (Err (Misplaced p)) = ⊥

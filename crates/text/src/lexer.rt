@@ -111,7 +111,7 @@ impl<'a> Lexer<'a> {
 
     // The next token from the offset `from` on, if there is one; what is no token is refused.
     pub fn next(&self, from: usize) -> Result<Option<Lexeme<'a>>, TextFault>
-        ensures { from ≤ length self.now.text.now → Next self.now.text.now from result }
+        ensures { Next self.now.text.now from result }
     {
         if from > self.text.len() {
             return Ok(None);

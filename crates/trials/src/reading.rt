@@ -15,17 +15,10 @@ fn node(kind: u8, number: u16) -> TermNode {
 
 // Reads a text while three formulas are filed.
 fn outcome(text: &[u8], memory: &mut [TermNode]) -> Result<usize, (u16, usize)> {
-    match read(&Builtin, 3, text, memory) {
-        Ok(count) => Ok(count),
-        Err(fault) => {
-            let Refusal {
-                number,
-                layer: _,
-                place,
-            } = Refusal::from(fault);
-            Err((number, place))
-        }
-    }
+    read(&Builtin, 3, text, memory).map_err(|fault| {
+        let Refusal { number, place, .. } = Refusal::from(fault);
+        (number, place)
+    })
 }
 
 #[test]

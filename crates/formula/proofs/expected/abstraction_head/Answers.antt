@@ -1,30 +1,29 @@
 use Rattle.std.proofs.Common.{refl, ap}
-use Rattle.std.proofs.lemmas.Result.{err_from_is_err_and}
+use Rattle.text.proofs.Exits.{exit_is}
 use Rattle.text.specs.Lexing.{sign_of}
-use Rattle.text.proofs.Ahead.{rest_refused}
+use Rattle.text.proofs.Ahead.{rest_none, rest_refused}
 use Rattle.formula.proofs.Signs.{lambda_is}
 use Rattle.formula.proofs.Tokens.{reads_sign, blames_later, head_read, no_lambda, no_lambda_at_end}
 use Rattle.grammar.specs.Machine.{start}
 use Rattle.formula.proofs.expected.abstraction_head.Goals as goal
 
 pub returns-in_err-found : goal.returns-in_err-found
-returns-in_err-found c h =
-    let p = err_from_is_err_and c.from_residual.result c.from_residual.ensures.1 in
-    rw p.1 (λ ts r k. absurd (rest_refused c.args.lexer.now.text.now c.args.from ts r _ (c.in_err-found.ensures h)))
-
-pub returns-in_err-head-in-Lambda : goal.returns-in_err-head-in-Lambda
-returns-in_err-head-in-Lambda c h =
-    let p = err_from_is_err_and c.from_residual-in_err-head-in-Lambda.result c.from_residual-in_err-head-in-Lambda.ensures.1 in
-    let sign = reads_sign _ _ _ (c.in_ok-found.ensures h) c.in-Some.found _ c.in-Some.is (ap sign_of c.in-Lambda.is) in
-    rw (p.1, p.2) (λ ts r k. blames_later _ _ _ _ sign (start k) _ (λ o. refl) ts r (λ o us s. c.in_err-head-in-Lambda.ensures sign.within us s k))
-
-pub returns-in_ok-head-in-Lambda : goal.returns-in_ok-head-in-Lambda
-returns-in_ok-head-in-Lambda c h =
-    let sign = reads_sign _ _ _ (c.in_ok-found.ensures h) c.in-Some.found _ c.in-Some.is (ap sign_of c.in-Lambda.is) in
-    head_read _ _ _ _ sign (c.in_ok-head-in-Lambda.ensures sign.within)
+returns-in_err-found c =
+    rw (exit_is c.from_residual.result _ c.from_residual.ensures.1) (λ ts r k. absurd (rest_refused c.args.lexer.now.text.now c.args.from ts r _ c.in_err-found.ensures))
 
 pub returns-in_default : goal.returns-in_default
-returns-in_default c h = no_lambda _ _ _ (c.in_ok-found.ensures h) c.in-Some.found c.in-Some.is (λ s. c.in_default.not-Lambda (lambda_is _ s))
+returns-in_default c = λ ts r. no_lambda_at_end ts (rest_none _ _ ts r _ c.in_default.is c.in_ok-found.ensures)
 
-pub returns-in-None : goal.returns-in-None
-returns-in-None c h = no_lambda_at_end _ _ _ (c.in_ok-found.ensures h) c.in-None.is
+pub returns-in_default-token : goal.returns-in_default-token
+returns-in_default-token c = no_lambda _ _ c.in-Some.found (rw c.in-Some.is at c.in_ok-found.ensures) (λ s. c.in_default-token.not-Lambda (lambda_is _ s))
+
+pub returns-in_err-head : goal.returns-in_err-head
+returns-in_err-head c =
+    let exit = exit_is c.from_residual-in_err-head.result _ c.from_residual-in_err-head.ensures.1 in
+    let sign = reads_sign _ _ c.in-Some.found (rw c.in-Some.is at c.in_ok-found.ensures) _ (ap sign_of c.in-Lambda.is) in
+    rw exit (λ ts r k. blames_later _ _ _ _ sign (start k) _ (λ o. refl) ts r (λ o us s. c.in_err-head.ensures us s k))
+
+pub returns : goal.returns
+returns c =
+    let sign = reads_sign _ _ c.in-Some.found (rw c.in-Some.is at c.in_ok-found.ensures) _ (ap sign_of c.in-Lambda.is) in
+    head_read _ _ _ _ sign c.in_ok-head.ensures

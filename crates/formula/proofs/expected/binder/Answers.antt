@@ -1,30 +1,32 @@
-use Rattle.std.proofs.Common.{refl, ap}
-use Rattle.std.proofs.lemmas.Result.{err_from_is_err_and}
+use Rattle.std.proofs.Common.{◌≡◌, refl, ap, ⊎_elim, rules}
+use Rattle.text.proofs.Exits.{exit_is}
+use Rattle.text.specs.declared.token.Token.TheVariants.{Name, Dot}
 use Rattle.text.specs.Lexing.{sign_of}
-use Rattle.text.proofs.Ahead.{rest_refused}
-use Rattle.formula.proofs.Signs.{binder_stuck}
-use Rattle.formula.proofs.Tokens.{reads_sign, blames_here, blames_end, blames_later, binder_read}
-use Rattle.grammar.specs.Machine.{binder}
+use Rattle.grammar.specs.Machine.{binder, before_dot, step}
+use Rattle.formula.proofs.Signs.{binder_stuck, dot_stuck}
+use Rattle.formula.proofs.Tokens.{blames_end, blames_other, blames_later, binder_read}
 use Rattle.formula.proofs.expected.binder.Goals as goal
 
-pub returns-in_err-found : goal.returns-in_err-found
-returns-in_err-found c h =
-    let p = err_from_is_err_and c.from_residual.result c.from_residual.ensures.1 in
-    rw p.1 (λ ts r k. absurd (rest_refused c.args.lexer.now.text.now c.args.from ts r _ (c.in_err-found.ensures h)))
+pub returns-in_err-name : goal.returns-in_err-name
+returns-in_err-name c =
+    rw (exit_is c.from_residual.result _ c.from_residual.ensures.1) (λ ts r k. ⊎_elim (λ e. blames_end (binder k) ts _ _ e tt refl)
+    (λ s. blames_other (binder k) ts _ _ s.0 s.1 s.2 s.3 s.4 tt (binder_stuck k s.0 s.1 (λ v e. let m = s.5 in search rules)))
+    (c.in_err-name.ensures ts r))
 
-pub returns-in_err-end-in-Name : goal.returns-in_err-end-in-Name
-returns-in_err-end-in-Name c h =
-    let p = err_from_is_err_and c.from_residual-in_err-end-in-Name.result c.from_residual-in_err-end-in-Name.ensures.1 in
-    let name = reads_sign _ _ _ (c.in_ok-found.ensures h) c.in-Some.found _ c.in-Some.is (ap sign_of c.in-Name.is) in
-    rw (p.1, p.2) (λ ts r k. blames_later _ _ _ _ name (binder k) _ (λ o. refl) ts r (λ o us s. c.in_err-end-in-Name.ensures name.within us s _ o k))
+pub returns-in_err-end : goal.returns-in_err-end
+returns-in_err-end c =
+    let exit = exit_is c.from_residual-in_err-end.result _ c.from_residual-in_err-end.ensures.1 in
+    let name = c.in_ok-name.ensures in
+    let is : name.0 ≡ Name c.in_ok-name.name = search rules in
+    rw exit (λ ts r k. blames_later _ _ _ _ name.2 (binder k) _ (λ o. ap (λ y. step (binder k) (sign_of y) o) is) ts r
+    (λ o us r. ⊎_elim (λ e. blames_end (before_dot c.in_ok-name.name.now o k) us _ _ e tt refl)
+    (λ s. blames_other (before_dot c.in_ok-name.name.now o k) us _ _ s.0 s.1 s.2 s.3 s.4 tt (dot_stuck _ _ k s.0 s.1 (λ e. let m = s.5 in search rules)))
+    (c.in_err-end.ensures us r)))
 
-pub returns-in_ok-end-in-Name : goal.returns-in_ok-end-in-Name
-returns-in_ok-end-in-Name c h =
-    let name = reads_sign _ _ _ (c.in_ok-found.ensures h) c.in-Some.found _ c.in-Some.is (ap sign_of c.in-Name.is) in
-    binder_read _ _ _ _ _ name (c.in_ok-end-in-Name.ensures name.within)
-
-pub returns-in_default : goal.returns-in_default
-returns-in_default c h = λ ts r k. blames_here _ _ _ (c.in_ok-found.ensures h) (binder k) c.in-Some.found ts c.in-Some.is tt (binder_stuck k _ _ c.in_default.not-Name) r
-
-pub returns-in-None : goal.returns-in-None
-returns-in-None c h = λ ts r k. blames_end _ _ _ (c.in_ok-found.ensures h) (binder k) ts c.in-None.is tt refl r
+pub returns : goal.returns
+returns c =
+    let name = c.in_ok-name.ensures in
+    let dot = c.in_ok-end.ensures in
+    let is : name.0 ≡ Name c.in_ok-name.name = search rules in
+    let then : dot.0 ≡ Dot = search rules in
+    binder_read _ _ _ _ _ (rw is at name.2) (rw then at dot.2)

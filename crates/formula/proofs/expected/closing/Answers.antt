@@ -1,21 +1,16 @@
-use Rattle.std.proofs.Common.{refl, ap}
-use Rattle.std.proofs.lemmas.Result.{err_from_is_err_and}
+use Rattle.std.proofs.Common.{◌≡◌, ◌∷◌, refl, ap, rules, inl, ⊎_elim}
+use Rattle.text.proofs.Exits.{exit_is}
+use Rattle.text.specs.declared.token.Token.TheVariants.{Close}
 use Rattle.text.specs.Lexing.{sign_of}
-use Rattle.text.proofs.Ahead.{rest_refused}
 use Rattle.formula.proofs.Signs.{closing_is}
-use Rattle.formula.proofs.Tokens.{reads_sign, not_closing, all_read}
 use Rattle.formula.proofs.expected.closing.Goals as goal
 
-pub returns-in_err-found : goal.returns-in_err-found
-returns-in_err-found c h =
-    let p = err_from_is_err_and c.from_residual.result c.from_residual.ensures.1 in
-    rw p.1 (λ ts r e. absurd (rest_refused c.args.lexer.now.text.now c.args.from ts r _ (c.in_err-found.ensures h)))
+pub returns-in_err-end : goal.returns-in_err-end
+returns-in_err-end c =
+    rw (exit_is c.from_residual.result _ c.from_residual.ensures.1) (λ ts r e. ⊎_elim (λ n. n) (λ s. absurd (let m = s.5 in search rules)) (c.in_err-end.ensures ts r))
 
-pub returns-in-Close : goal.returns-in-Close
-returns-in-Close c h = reads_sign _ _ _ (c.in_ok-found.ensures h) c.in-Some.found _ c.in-Some.is (ap sign_of c.in-Close.is)
-
-pub returns-in_default : goal.returns-in_default
-returns-in_default c h = λ ts r e. absurd (not_closing _ _ _ (c.in_ok-found.ensures h) c.in-Some.found c.in-Some.is (λ s. c.in_default.not-Close (closing_is _ s)) ts r e)
-
-pub returns-in-None : goal.returns-in-None
-returns-in-None c h = λ ts r e. (all_read _ _ _ (c.in_ok-found.ensures h) c.in-None.is ts r, refl)
+pub returns : goal.returns
+returns c =
+    let taken = c.in_ok-end.ensures in
+    let is : taken.0 ≡ Close = search rules in
+    rw is at taken.2

@@ -1,21 +1,20 @@
 use Rattle.std.proofs.Common.{ap}
-use Rattle.std.proofs.lemmas.Result.{err_from_is_err_and}
+use Rattle.text.proofs.Exits.{exit_is}
 use Rattle.text.specs.Lexing.{sign_of}
-use Rattle.text.proofs.Ahead.{rest_refused}
+use Rattle.text.proofs.Ahead.{rest_none, rest_refused}
 use Rattle.formula.proofs.Signs.{closing_is}
-use Rattle.formula.proofs.Tokens.{ends_closing, ends_none, goes_on}
+use Rattle.formula.proofs.Tokens.{ends_closing, goes_on, nothing_ends}
 use Rattle.formula.proofs.expected.follows.Goals as goal
 
 pub returns-in_err-found : goal.returns-in_err-found
-returns-in_err-found c h =
-    let p = err_from_is_err_and c.from_residual.result c.from_residual.ensures.1 in
-    rw p.1 (λ ts r. rest_refused c.args.lexer.now.text.now c.args.from ts r _ (c.in_err-found.ensures h))
-
-pub returns-in-Close : goal.returns-in-Close
-returns-in-Close c h = ends_closing _ _ _ (c.in_ok-found.ensures h) c.in-Some.found c.in-Some.is (ap sign_of c.in-Close.is)
+returns-in_err-found c =
+    rw (exit_is c.from_residual.result _ c.from_residual.ensures.1) (λ ts r. rest_refused c.args.lexer.now.text.now c.args.from ts r _ c.in_err-found.ensures)
 
 pub returns-in_default : goal.returns-in_default
-returns-in_default c h = goes_on _ _ _ (c.in_ok-found.ensures h) c.in-Some.found c.in-Some.is (λ s. c.in_default.not-Close (closing_is _ s))
+returns-in_default c = λ ts r. nothing_ends ts (rest_none _ _ ts r _ c.in_default.is c.in_ok-found.ensures)
 
-pub returns-in-None : goal.returns-in-None
-returns-in-None c h = ends_none _ _ _ (c.in_ok-found.ensures h) c.in-None.is
+pub returns-in-Close : goal.returns-in-Close
+returns-in-Close c = ends_closing _ _ c.in-Some.found (rw c.in-Some.is at c.in_ok-found.ensures) (ap sign_of c.in-Close.is)
+
+pub returns-in_default-token : goal.returns-in_default-token
+returns-in_default-token c = goes_on _ _ c.in-Some.found (rw c.in-Some.is at c.in_ok-found.ensures) (λ s. c.in_default-token.not-Close (closing_is _ s))

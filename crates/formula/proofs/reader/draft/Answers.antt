@@ -1,12 +1,11 @@
 use Rattle.std.proofs.Common.{arith}
-use Rattle.std.proofs.lemmas.Result.{err_from_is_err_and}
+use Rattle.text.proofs.Exits.{exit_is}
 use Rattle.formula.proofs.Wholes.{refused_text, refused_count, refused_room, refused_name, refused_reference, drafted}
 use Rattle.formula.proofs.reader.draft.Goals as goal
 
 pub returns-in_err-whole : goal.returns-in_err-whole
 returns-in_err-whole g c =
-    let p = err_from_is_err_and c.from_residual.result c.from_residual.ensures.1 in
-    rw (p.1, p.2) (refused_text _ _ _ _ _ c.in_err-whole.ensures)
+    rw (exit_is c.from_residual.result _ c.from_residual.ensures.1) (refused_text _ _ _ _ _ c.in_err-whole.ensures)
 
 pub returns-then-whole-gt-MOST_NODES : goal.returns-then-whole-gt-MOST_NODES
 returns-then-whole-gt-MOST_NODES g c = refused_count _ _ _ _ _ _ c.in_ok-whole.ensures c.if-whole-gt-MOST_NODES.true

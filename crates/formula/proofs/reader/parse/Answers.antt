@@ -1,5 +1,10 @@
-use Rattle.std.proofs.Common.{length, ap, arith, lit≤}
+use Rattle.std.proofs.Common.{length, ap, arith}
+use Rattle.std.proofs.lemmas.Result.{MatchResult-weaker}
+use Rattle.formula.proofs.Wholes.{parsed_part}
 use Rattle.formula.proofs.reader.parse.Goals as goal
 
-pub whole-reply-requires : goal.whole-reply-requires
-whole-reply-requires g c = let same = ap length c.new.ensures in record { few = lit≤ tt; short = omega (arith, same) }
+pub invariant_of-reader : goal.invariant_of-reader
+invariant_of-reader g c = let same = ap length c.new.ensures in omega (arith, same)
+
+pub returns : goal.returns
+returns g c = rw c.new.ensures at (MatchResult-weaker c.whole.result c.whole.ensures (λ q e. parsed_part _ _ _ _ _ _ q c.min-room.ensures e) (λ f b. b))

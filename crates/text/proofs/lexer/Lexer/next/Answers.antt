@@ -9,7 +9,7 @@ use Rattle.text.proofs.Scanning.{join_found, passed_all}
 use Rattle.text.proofs.lexer.Lexer.next.Goals as goal
 
 pub returns-then-at-self : goal.returns-then-at-self
-returns-then-at-self c h = passed_all _ _ _ c.pass_spaces-at.ensures c.if-at-self.true
+returns-then-at-self c = λ h. passed_all _ _ _ c.pass_spaces-at.ensures c.if-at-self.true
 
 -- a token found, as the next one
 found : (text : List ℕ) (o p : ℕ) (r : Result Lexeme TextFault) (m : Result (Option Lexeme) TextFault) → p < length text → Passed text o p → Starts text p r → MatchResult r (λ x. IsOkAnd m (λ s. s ≡ Some x)) (λ e. m ≡ Err e) → Next text o m
@@ -19,4 +19,4 @@ found text o p (Err (fault.Stray q)) m h a f e = rw e (record { before = subst (
 found text o p (Err (fault.Misplaced q)) m h a f e = absurd f
 
 pub returns : goal.returns
-returns c h = found _ _ _ _ _ (omega (arith, c.pass_spaces-at.ensures.within, c.if-at-self.false)) c.pass_spaces-at.ensures c.token_at.ensures c.map.ensures.cases
+returns c = found _ _ _ _ _ (omega (arith, c.pass_spaces-at.ensures.within, c.if-at-self.false)) c.pass_spaces-at.ensures c.token_at.ensures c.map.ensures.cases
