@@ -1,11 +1,8 @@
--- The short layout can be read, and the file of two zero bytes is accepted and means no entries.
+-- The file of two zero bytes is accepted and means no entries.
 use Rattle.std.proofs.Common.{◌≡◌, ℕ, List, [], ◌∷◌, refl, not-suc-le-zero, lit≤}
-use Rattle.catalogue_file.specs.Layouts.{Fit, short, pair_place}
+use Rattle.catalogue_file.specs.Layouts.{short, pair_place}
 use Rattle.catalogue_file.specs.Files.{field, entries_of}
 use Rattle.catalogue_file.specs.Checking.{Sound}
-
-pub fit_short : Fit short
-fit_short = record { front = lit≤ tt; narrow = lit≤ tt; counted = lit≤ tt; few = lit≤ tt; lists = lit≤ tt }
 
 abbrev pub no_bytes : List ℕ
 no_bytes = 0 ∷ 0 ∷ []

@@ -1,6 +1,5 @@
 pub mod Ranges
 pub mod Places
-pub mod Names
 pub mod Nodes
 pub mod Lengths
 pub mod Empty

@@ -8,7 +8,7 @@ use Rattle.catalogue_file.specs.Numbers.{number}
 use Rattle.catalogue_file.specs.Parts.{nodes_of}
 
 -- fewer than five bytes are left over
-pub nodes_fill : (bs : List ℕ) → (5 * length (nodes_of bs) ≤ length bs) × (length bs < 5 * length (nodes_of bs) + 5)
+nodes_fill : (bs : List ℕ) → (5 * length (nodes_of bs) ≤ length bs) × (length bs < 5 * length (nodes_of bs) + 5)
 nodes_fill [] = (omega arith, omega arith)
 nodes_fill (k ∷ []) = (omega arith, omega arith)
 nodes_fill (k ∷ l ∷ []) = (omega arith, omega arith)

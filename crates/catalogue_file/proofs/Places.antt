@@ -1,5 +1,5 @@
 -- Where pairs and entries stand: all of them inside the file.
-use Rattle.std.proofs.Common.{◌≡◌, ℕ, zero, suc, ◌+◌, ◌-◌, ◌*◌, ◌<◌, ◌≤◌, List, length, ap, ◌∙◌, subst, mul-le-mul_left, arith}
+use Rattle.std.proofs.Common.{◌≡◌, ℕ, zero, suc, ◌+◌, ◌-◌, ◌*◌, ◌<◌, ◌≤◌, List, length, subst, mul-le-mul_left, arith}
 use Rattle.catalogue_file.specs.declared.layout.Layout.{Layout}
 use Rattle.catalogue_file.specs.Layouts.{pair_place}
 use Rattle.catalogue_file.specs.Files.{count, offset, size}
@@ -24,10 +24,3 @@ module _ (l : Layout) (bs : List ℕ) where
 
   pub part_inside : (k : ℕ) → Laid l bs → k < count l bs → offset l bs k + size l bs k ≤ length bs
   part_inside k laid h = due_inside laid (count l bs - suc k) (suc k) (omega arith)
-
-  -- what is due behind an entry
-  pub due_behind : (k o n : ℕ) → o ≡ offset l bs k → n ≡ size l bs k → o + n ≡ due l bs (k + 1)
-  due_behind k o n p q =
-      let next : suc k ≡ k + 1 = omega arith in
-      let sum : o + n ≡ offset l bs k + size l bs k = omega arith in
-      sum ∙ ap (due l bs) next

@@ -4,7 +4,6 @@ use catalogue::interface::Catalogue;
 use catalogue_file::fault::FileFault;
 use catalogue_file::opening::open_file;
 use std::alloc::{AllocError, Global};
-use std::process::Abort;
 use std::test::Fail;
 use types::TypeNode;
 
@@ -20,36 +19,34 @@ fn many(heap: Global, count: u16) -> Result<Vec<u8>, AllocError> {
 
 // The answer to a file of two entries, the second with this name and these nodes.
 fn second(
-    rt: &impl Abort,
-    heap: Global,
+    rt: &HostRuntime,
     name: &[u8],
     nodes: &[TypeNode],
     answer: Option<FileFault>,
 ) -> Result<(), Fail> {
-    let mut draft = Draft::new(heap);
+    let mut draft = Draft::new(rt.alloc());
     draft.add(b"first", &[TypeNode::base(0)])?;
     draft.add(name, nodes)?;
-    assert_eq!(rt; draft.fault(heap)?, answer);
+    assert_eq!(rt; draft.fault(rt.alloc())?, answer);
     Ok(())
 }
 
 // A file of one entry that is refused for its form.
-fn broken(rt: &impl Abort, heap: Global, entry: &[u8]) -> Result<(), Fail> {
-    let mut draft = Draft::new(heap);
+fn broken(rt: &HostRuntime, entry: &[u8]) -> Result<(), Fail> {
+    let mut draft = Draft::new(rt.alloc());
     draft.add_bytes(entry)?;
-    assert_eq!(rt; draft.fault(heap)?, Some(FileFault::Malformed(0)));
+    assert_eq!(rt; draft.fault(rt.alloc())?, Some(FileFault::Malformed(0)));
     Ok(())
 }
 
 // A file of so many entries, and its answer.
 fn counted(
-    rt: &impl Abort,
-    heap: Global,
+    rt: &HostRuntime,
     count: u16,
     answer: Option<FileFault>,
     entries: u16,
 ) -> Result<(), Fail> {
-    let file = many(heap, count)?;
+    let file = many(rt.alloc(), count)?;
     assert_eq!(rt; fault_of(&file), answer);
     assert_eq!(rt; count_of(&file), entries);
     Ok(())
@@ -62,10 +59,10 @@ fn count_of(bytes: &[u8]) -> u16 {
 #[test]
 fn counts(rt: HostRuntime) -> Result<(), Fail> {
     assert_eq!(rt; fault_of(&[0, 0, 0]), Some(FileFault::Gap));
-    counted(&rt, rt.alloc(), 0, None, 0)?;
-    counted(&rt, rt.alloc(), 1, None, 1)?;
-    counted(&rt, rt.alloc(), 256, None, 256)?;
-    counted(&rt, rt.alloc(), 257, Some(FileFault::Count), 0)
+    counted(&rt, 0, None, 0)?;
+    counted(&rt, 1, None, 1)?;
+    counted(&rt, 256, None, 256)?;
+    counted(&rt, 257, Some(FileFault::Count), 0)
 }
 
 #[test]
@@ -95,39 +92,36 @@ fn places(rt: HostRuntime) -> Result<(), Fail> {
 
 #[test]
 fn names(rt: HostRuntime) -> Result<(), Fail> {
-    let heap = rt.alloc();
     let hours = [TypeNode::base(0)];
     let letters = [b'a'; 32];
     let malformed = Some(FileFault::Malformed(1));
-    second(&rt, heap, &letters[0..31], &hours, None)?;
-    second(&rt, heap, &letters, &hours, malformed)?;
-    second(&rt, heap, b"", &hours, malformed)?;
-    second(&rt, heap, b"0a", &hours, malformed)?;
-    second(&rt, heap, b"a-b", &hours, malformed)?;
-    second(&rt, heap, b"first", &hours, Some(FileFault::Repeated(1)))
+    second(&rt, &letters[0..31], &hours, None)?;
+    second(&rt, &letters, &hours, malformed)?;
+    second(&rt, b"", &hours, malformed)?;
+    second(&rt, b"0a", &hours, malformed)?;
+    second(&rt, b"a-b", &hours, malformed)?;
+    second(&rt, b"first", &hours, Some(FileFault::Repeated(1)))
 }
 
 #[test]
 fn nodes(rt: HostRuntime) -> Result<(), Fail> {
-    let heap = rt.alloc();
     let hours = [TypeNode::base(0); 65];
     let malformed = Some(FileFault::Malformed(1));
     let unlawful = Some(FileFault::Unlawful(1));
-    second(&rt, heap, b"x", &hours[0..64], None)?;
-    second(&rt, heap, b"x", &hours, malformed)?;
-    second(&rt, heap, b"x", &[], malformed)?;
-    second(&rt, heap, b"x", &[TypeNode::arrow(1, 0), TypeNode::base(0)], unlawful)?;
-    second(&rt, heap, b"x", &[TypeNode::base(6)], unlawful)
+    second(&rt, b"x", &hours[0..64], None)?;
+    second(&rt, b"x", &hours, malformed)?;
+    second(&rt, b"x", &[], malformed)?;
+    second(&rt, b"x", &[TypeNode::arrow(1, 0), TypeNode::base(0)], unlawful)?;
+    second(&rt, b"x", &[TypeNode::base(6)], unlawful)
 }
 
 // No bytes, a name that is longer than its entry, and four bytes over.
 #[test]
 fn broken_entries(rt: HostRuntime) -> Result<(), Fail> {
-    broken(&rt, rt.alloc(), b"")?;
-    broken(&rt, rt.alloc(), b"\x08x\x01\x00\x00\x00\x00")?;
+    broken(&rt, b"")?;
+    broken(&rt, b"\x08x\x01\x00\x00\x00\x00")?;
     broken(
         &rt,
-        rt.alloc(),
         b"\x01x\x01\x00\x00\x00\x00\x01\x00\x00\x00",
     )
 }

@@ -1,6 +1,5 @@
-use Rattle.std.proofs.Common.{arith}
 use Rattle.catalogue_file.proofs.Nodes.{nodes_counted}
 use Rattle.catalogue_file.proofs.parts.node_count.Goals as goal
 
-pub returns : goal.returns
-returns c = record { value = nodes_counted c.args.rest.now; inside = omega arith }
+pub returns-clause-value : goal.returns-clause-value
+returns-clause-value c = nodes_counted c.args.rest.now

@@ -6,6 +6,5 @@ use Rattle.catalogue_file.proofs.answers.FileCatalogueCatalogue.find.Goals as go
 
 pub returns : goal.returns
 returns c =
-    let es = contents c.args.self.now in
-    least_found es c.args.name.now c.count.result c.find.result c.count.ensures
-    (first_from_Range _ _ _ _ (Yes es c.args.name.now) (No es c.args.name.now) c.find.ensures.ran (λ x q k. search (rules, tests)) (λ x q k. search (rules, tests)))
+    least_found (contents c.args.self.now) c.args.name.now c.count.result c.find.result c.count.ensures
+    (first_from_Range _ _ _ _ (Yes (contents c.args.self.now) c.args.name.now) (No (contents c.args.self.now) c.args.name.now) c.find.ensures.ran (λ x q k. search (rules, tests)) (λ x q k. search (rules, tests)))
