@@ -34,7 +34,7 @@ pub fn is_once(list: &[TypeNode]) -> bool
     ensures places { Lawful list.now → result ≡ true → PlacesAreTypes list.now }
 {
     for (place, node) in list.iter().enumerate() {
-        if find(&list[..place], *node).is_some() {
+        if list[..place].contains(node) {
             return false;
         }
     }
