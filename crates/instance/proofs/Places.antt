@@ -88,20 +88,3 @@ once_from_new l new p q hp hq e =
             | inr more ↦ absurd (new p q hp more (sym e))
           ])
     ]
-
-module _ (l : List TypeNode) (n : ℕ) (h : n < length l) where
-  pub new_more : (m : ℕ) → m ≡ n → NewUpTo l n → Absent (take m l) (get_or l n zero_node) → NewUpTo l (n + 1)
-  new_more m is new absent p q hp hq e =
-      elim (cases_eq p n) [
-        | inl last ↦
-            (let inside : q < length (take m l) = simp length-take (omega arith) in
-            let less : q < m = omega arith in
-            absent q inside (get_or-take m l q zero_node less ∙ e ∙ ap (λ (i : ℕ). get_or l i zero_node) last))
-        | inr below ↦ new p q (omega arith) hq e
-      ]
-
-  pub not_new : (m k : ℕ) → m ≡ n → k < length (take m l) → get_or (take m l) k zero_node ≡ get_or l n zero_node → Once l → ⊥
-  not_new m k is inside e once =
-      let less : k < m = omega (arith, simp length-take at inside) in
-      let same = once k n (omega arith) h (sym (get_or-take m l k zero_node less) ∙ e) in
-      absurd (omega arith)

@@ -15,7 +15,7 @@ use matching::Matching;
 use types::{MOST_NODES, Shape, TypeNode, is_lawful};
 
 // Which of the two lists means no type; the first is asked first.
-#[derive(Clone, Copy, Debug, PartialEq)]
+#[derive(Clone, Copy, Debug, PartialEq, Eq)]
 pub enum InstanceFault {
     UnlawfulGeneral,
     UnlawfulSpecial,

@@ -50,7 +50,8 @@ fn filed_formulas(rt: HostRuntime) {
     );
 }
 
-// Arrows from the node before to itself, from the second node on.
+// Arrows from the node before to itself, from the second node on. The tests of `printing` and `instance` have it too: in a crate
+// of its own, all crates above would rest on what only tests use.
 fn double(list: &mut [TypeNode])
     requires { length list.old ≤ 4096 }
 {

@@ -27,7 +27,8 @@ fn chain(list: &mut [TypeNode])
     }
 }
 
-// Arrows from the node before to itself, from the second node on.
+// Arrows from the node before to itself, from the second node on. The tests of `lines` and `instance` have it too: in a crate
+// of its own, all crates above would rest on what only tests use.
 fn double(list: &mut [TypeNode])
     requires { length list.old ≤ 4096 }
 {
