@@ -1,11 +1,10 @@
 -- In a lawful list without equal records, places stand for types.
-use Rattle.std.proofs.Common.{◌≡◌, ℕ, zero, suc, ◌+◌, ◌<◌, ◌≤◌, List, length, get_or, take, sym, refl, ap, ◌∙◌, ap₂, inl, inr, arith}
-use Rattle.std.proofs.lemmas.Bool.{cases_eq, cases_lt, cases_order}
-use Rattle.std.proofs.lemmas.List.{length-take, get_or-take}
+use Rattle.std.proofs.Common.{◌≡◌, ℕ, zero, suc, ◌<◌, ◌≤◌, List, length, get_or, sym, refl, ap, ◌∙◌, ap₂, inl, inr, arith}
+use Rattle.std.proofs.lemmas.Bool.{cases_lt, cases_order}
 use Rattle.types.specs.declared.TypeNode.{TypeNode}
 use Rattle.types.specs.Types.{Ty, variable, base, branch}
 use Rattle.types.specs.Lists.{node, zero_node, LawfulNode, shape, type_at}
-use Rattle.instance.specs.Once.{Absent, Once, PlacesAreTypes}
+use Rattle.instance.specs.Once.{Once, PlacesAreTypes}
 use Rattle.types.proofs.Reading.{lower_at, at_branch}
 
 -- ---- what a type is made of

@@ -12,9 +12,7 @@ fn prints(rt: &impl Abort, list: &[TypeNode], expected: &[u8]) -> Result<(), Fai
     assert_eq!(rt; n, expected.len());
     assert!(rt; n < 40);
     assert!(rt; &out[0..n] == expected);
-    for byte in &out[n..] {
-        assert_eq!(rt; *byte, b'#');
-    }
+    assert!(rt; out[n..].iter().all(|byte| *byte == b'#'));
     Ok(())
 }
 
