@@ -1,11 +1,10 @@
 -- In a lawful list without equal records, places stand for types.
-use Rattle.std.proofs.Common.{◌≡◌, ℕ, zero, suc, ◌+◌, ◌<◌, ◌≤◌, List, length, get_or, take, sym, refl, ap, ◌∙◌, ap₂, inl, inr, arith}
-use Rattle.std.proofs.lemmas.Bool.{cases_eq, cases_lt, cases_order}
-use Rattle.std.proofs.lemmas.List.{length-take, get_or-take}
+use Rattle.std.proofs.Common.{◌≡◌, ℕ, zero, suc, ◌<◌, ◌≤◌, List, length, get_or, sym, refl, ap, ◌∙◌, ap₂, inl, inr, arith}
+use Rattle.std.proofs.lemmas.Bool.{cases_lt, cases_order}
 use Rattle.types.specs.declared.TypeNode.{TypeNode}
 use Rattle.types.specs.Types.{Ty, variable, base, branch}
 use Rattle.types.specs.Lists.{node, zero_node, LawfulNode, shape, type_at}
-use Rattle.instance.specs.Once.{Absent, Once, PlacesAreTypes}
+use Rattle.instance.specs.Once.{Once, PlacesAreTypes}
 use Rattle.types.proofs.Reading.{lower_at, at_branch}
 
 -- ---- what a type is made of
@@ -88,20 +87,3 @@ once_from_new l new p q hp hq e =
             | inr more ↦ absurd (new p q hp more (sym e))
           ])
     ]
-
-module _ (l : List TypeNode) (n : ℕ) (h : n < length l) where
-  pub new_more : (m : ℕ) → m ≡ n → NewUpTo l n → Absent (take m l) (get_or l n zero_node) → NewUpTo l (n + 1)
-  new_more m is new absent p q hp hq e =
-      elim (cases_eq p n) [
-        | inl last ↦
-            (let inside : q < length (take m l) = simp length-take (omega arith) in
-            let less : q < m = omega arith in
-            absent q inside (get_or-take m l q zero_node less ∙ e ∙ ap (λ (i : ℕ). get_or l i zero_node) last))
-        | inr below ↦ new p q (omega arith) hq e
-      ]
-
-  pub not_new : (m k : ℕ) → m ≡ n → k < length (take m l) → get_or (take m l) k zero_node ≡ get_or l n zero_node → Once l → ⊥
-  not_new m k is inside e once =
-      let less : k < m = omega (arith, simp length-take at inside) in
-      let same = once k n (omega arith) h (sym (get_or-take m l k zero_node less) ∙ e) in
-      absurd (omega arith)

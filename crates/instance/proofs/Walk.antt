@@ -6,7 +6,7 @@ use Rattle.std.proofs.lemmas.Bool.{false≢true}
 use Rattle.types.specs.declared.TypeNode.{TypeNode}
 use Rattle.types.specs.Types.{Ty, apply, Instance}
 use Rattle.types.specs.Lists.{type_at, meaning}
-use Rattle.instance.specs.Matching.{Pending, Within, Passed, Clash}
+use Rattle.instance.specs.Matching.{Pending, Within, Clash}
 use Rattle.instance.proofs.Tables.{none_given, one_given}
 
 pub record Walked (g s : List TypeNode) (place : ℕ) (ns vs : List (Option ℕ)) (k : ℕ) : Type 0 where
@@ -39,17 +39,6 @@ module _ (g s : List TypeNode) (place : ℕ) where
       (subst (λ (x : List (Option ℕ)). Walked g s place (set (replicate 4096 None) (length g - 1) (Some place)) x (length g)) (sym f) (walk_new some few inside))
 
   module _ (ns vs : List (Option ℕ)) (k j : ℕ) (next : j + 1 ≡ k) (w : Walked g s place ns vs k) where
-    pub walk_within : Within (length s) ns vs (j + 1)
-    walk_within = subst (Within (length s) ns vs) (sym next) w.within
-
-    pub walk_again : (ns' vs' : List (Option ℕ)) → Passed g s ns ns' vs vs' j → Walked g s place ns' vs' j
-    walk_again ns' vs' t =
-        record {
-          within = t.within;
-          onto = λ σ is. t.onto σ (subst (λ (i : ℕ). Pending g s ns vs i σ) (sym next) (w.onto σ is));
-          back = λ σ p. w.back σ (subst (λ (i : ℕ). Pending g s ns vs i σ) next (t.back σ p));
-        }
-
     pub walk_clash : (g' s' : List TypeNode) → g' ≡ g → s' ≡ s → Clash g' s' ns vs (j + 1) → Decides false (Instance (meaning g) (type_at s place))
     walk_clash g' s' e f clash =
         let here = subst (λ (x : List TypeNode). Clash x s ns vs (j + 1)) e (subst (λ (x : List TypeNode). Clash g' x ns vs (j + 1)) f clash) in

@@ -2,3 +2,4 @@ pub mod Once
 pub mod Merging
 pub mod Matching
 pub mod Deciding
+pub mod Steps

@@ -15,7 +15,7 @@ use matching::Matching;
 use types::{MOST_NODES, Shape, TypeNode, is_lawful};
 
 // Which of the two lists means no type; the first is asked first.
-#[derive(Clone, Copy, Debug, PartialEq)]
+#[derive(Clone, Copy, Debug, PartialEq, Eq)]
 pub enum InstanceFault {
     UnlawfulGeneral,
     UnlawfulSpecial,
@@ -34,7 +34,7 @@ pub fn is_once(list: &[TypeNode]) -> bool
     ensures places { Lawful list.now → result ≡ true → PlacesAreTypes list.now }
 {
     for (place, node) in list.iter().enumerate() {
-        if find(&list[..place], *node).is_some() {
+        if list[..place].contains(node) {
             return false;
         }
     }

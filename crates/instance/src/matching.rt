@@ -2,7 +2,7 @@
 ghost use Rattle.std.specs.Prelude.{◌≡◌, ℕ, ◌+◌, ◌-◌, ◌<◌, ◌≤◌, length, Some, None, slice_index_or, slice_set, replicate};
 ghost use Rattle.types.specs.Lists.{Lawful};
 ghost use Rattle.instance.specs.Once.{Once};
-ghost use Rattle.instance.specs.Matching.{Given, Within, Stepped};
+ghost use Rattle.instance.specs.Matching.{Given};
 
 use types::{MOST_NODES, Shape, TypeNode};
 
@@ -33,6 +33,8 @@ fn give(table: &mut [Option<u16>], entry: u16, place: u16) -> bool
 }
 
 impl<'a> Matching<'a> {
+    ghost use Rattle.instance.specs.Steps.{Inside, Steps};
+
     // The last node of the general list shall become the type at a place of the special one.
     pub(crate) fn new(general: &'a [TypeNode], special: &'a [TypeNode], place: u16) -> Self
         requires general { Lawful general.now }
@@ -56,10 +58,10 @@ impl<'a> Matching<'a> {
     // Asks of the parts of a node of the general list what is asked of the node.
     pub(crate) fn step(&mut self, at: usize) -> bool
         requires here { at < length self.old.general.now }
-        requires within { Within (length self.old.special.now) self.old.nodes self.old.variables (at + 1) }
+        requires within { Inside self.old (at + 1) }
         ensures general { self.new.general ≡ self.old.general }
         ensures special { self.new.special ≡ self.old.special }
-        ensures stepped { Stepped self.old.general.now self.old.special.now self.old.nodes self.new.nodes self.old.variables self.new.variables at result }
+        ensures stepped { Steps self.old self.new at result }
     {
         let Some(place) = self.nodes[at] else {
             return true;

@@ -23,7 +23,8 @@ fn instance_at(general: &[TypeNode], special: &[TypeNode], place: u16) -> Option
     Some(fits(general, special, place))
 }
 
-// Arrows from the node before to itself, from the second node on.
+// Arrows from the node before to itself, from the second node on. The tests of `printing` and `lines` have it too: in a crate
+// of its own, all crates above would rest on what only tests use.
 fn double(list: &mut [TypeNode])
     requires { length list.old ≤ 4096 }
 {

@@ -11,9 +11,7 @@ fn is_line(rt: &impl Abort, out: &[u8], n: usize, expected: &[u8]) {
     assert_eq!(rt; n, expected.len());
     assert!(rt; n <= out.len());
     assert!(rt; &out[0..n] == expected);
-    for byte in &out[n..] {
-        assert_eq!(rt; *byte, b'-');
-    }
+    assert!(rt; out[n..].iter().all(|byte| *byte == b'-'));
 }
 
 fn files(rt: &impl Abort, number: u16, list: &[TypeNode], expected: &[u8]) {
@@ -50,7 +48,8 @@ fn filed_formulas(rt: HostRuntime) {
     );
 }
 
-// Arrows from the node before to itself, from the second node on.
+// Arrows from the node before to itself, from the second node on. The tests of `printing` and `instance` have it too: in a crate
+// of its own, all crates above would rest on what only tests use.
 fn double(list: &mut [TypeNode])
     requires { length list.old ≤ 4096 }
 {

@@ -1,8 +1,7 @@
 -- The text of an arrow, from those of its parts.
-use Rattle.std.proofs.Common.{◌≡◌, ℕ, zero, suc, ◌<◌, Bool, eqb, List, ◌++◌, length, get_or, Some, Option, codes, refl, ap, ap₂, ◌∙◌, arith}
+use Rattle.std.proofs.Common.{◌≡◌, ℕ, zero, suc, ◌<◌, Bool, eqb, List, ◌++◌, length, get_or, Some, codes, refl, ap, ap₂, ◌∙◌, arith}
 use Rattle.std.proofs.lemmas.Bool.{eq-eqb, cond-true}
 use Rattle.types.specs.declared.TypeNode.{TypeNode}
-use Rattle.types.specs.declared.Shape.{Shape}
 use Rattle.types.specs.declared.Shape.TheVariants.{Arrow}
 use Rattle.types.specs.Types.{Ty}
 use Rattle.types.specs.Lists.{zero_node, Lawful, shape, type_at}

@@ -9,7 +9,7 @@ ghost use Rattle.printing.specs.declared.ShowFault.TheVariants.{TooLong};
 
 use arrayvec::{ArrayString, CapacityError};
 use itoa::Buffer;
-use types::{ARROW, Shape, TypeNode, is_lawful};
+use types::{Shape, TypeNode, is_lawful};
 
 // The most bytes that a printed type may have.
 pub const MOST_BYTES: usize = 4096;
@@ -21,7 +21,7 @@ const BASE_NAMES: [&str; 6] = ["hours", "rate", "gross", "net", "paid", "flag"];
 pub type TypeText = ArrayString<MOST_BYTES>;
 
 // Why a list is not printed.
-#[derive(Clone, Copy, Debug, PartialEq)]
+#[derive(Clone, Copy, Debug, PartialEq, Eq)]
 pub enum ShowFault {
     // It means no type.
     Unlawful,
@@ -76,7 +76,7 @@ fn push_arrow(out: &mut TypeText, list: &[TypeNode], left: u16, right: u16) -> R
     requires right { right < length list.now }
     ensures { Added out.old.bytes (arrow_text list.now left right) out.new.bytes result }
 {
-    let in_brackets = list[left as usize].kind == ARROW;
+    let in_brackets = matches!(list[left as usize].shape(), Some(Shape::Arrow(_, _)));
     push_left(out, list, left, in_brackets)?;
     out.try_push_str(" -> ")?;
     push_type(out, list, right)

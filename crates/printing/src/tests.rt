@@ -12,9 +12,7 @@ fn prints(rt: &impl Abort, list: &[TypeNode], expected: &[u8]) -> Result<(), Fai
     assert_eq!(rt; n, expected.len());
     assert!(rt; n < 40);
     assert!(rt; &out[0..n] == expected);
-    for byte in &out[n..] {
-        assert_eq!(rt; *byte, b'#');
-    }
+    assert!(rt; out[n..].iter().all(|byte| *byte == b'#'));
     Ok(())
 }
 
@@ -27,7 +25,8 @@ fn chain(list: &mut [TypeNode])
     }
 }
 
-// Arrows from the node before to itself, from the second node on.
+// Arrows from the node before to itself, from the second node on. The tests of `lines` and `instance` have it too: in a crate
+// of its own, all crates above would rest on what only tests use.
 fn double(list: &mut [TypeNode])
     requires { length list.old ≤ 4096 }
 {
