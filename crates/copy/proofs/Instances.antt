@@ -1,13 +1,12 @@
 -- A copy of a list has exactly the instances of the list's type.
-use Rattle.std.proofs.Common.{◌≡◌, ℕ, zero, suc, ◌+◌, ◌-◌, ◌<◌, ◌≤◌, Bool, true, false, cond, ◌&&◌, eqb, ◌≢◌, List, [], ◌∷◌, ◌++◌, length, get_or, set, sym, refl, ap, ◌∙◌, subst, ap₂, ⊎_elim, arith}
+use Rattle.std.proofs.Common.{◌≡◌, ℕ, zero, suc, ◌+◌, ◌-◌, ◌<◌, ◌≤◌, Bool, true, false, cond, ◌&&◌, eqb, ◌≢◌, List, [], ◌∷◌, ◌++◌, length, get_or, sym, refl, ap, ◌∙◌, subst, ap₂, ⊎_elim, arith}
 use Rattle.std.proofs.lemmas.Bool.{cases_eq, cond-true, cond-false, eq-eqb, eqb-true, and_parts}
 use Rattle.types.specs.Types.{Ty, variable, base, branch, apply}
 use Rattle.types.specs.Lists.{zero_node, Lawful, type_at}
 use Rattle.types.specs.declared.TypeNode.{TypeNode}
-use Rattle.graph.specs.Graph.{view, graph, Says, Solves, Inside, Sound}
+use Rattle.graph.specs.Graph.{Says, Solves, Inside, Sound}
 use Rattle.graph.specs.declared.Node.{Node}
 use Rattle.graph.specs.declared.Node.TheVariants.{Var, Base, Branch, Link}
-use Rattle.graph.proofs.Memory.{graph_push}
 use Rattle.copy.specs.Copies.{IsVariable, First, Fresh}
 use Rattle.copy.specs.Instances.{OfList}
 use Rattle.copy.specs.Told.{Agree, Told}
@@ -119,8 +118,3 @@ module _ (l : List TypeNode) (lawful : Lawful l) where
         back = λ v s. (let b = p.back v s in (b.0, record { some = some; instance = (choice v (length ns), sym (ap v ei ∙ b.1 (length l - 1) (omega arith))) }));
         onto = λ v τ s d. (let o = p.onto v d.instance.0 s in (o.0, o.1, o.2, ap o.0 ei ∙ o.3 (length l - 1) (omega arith) ∙ d.instance.1));
       }
-
-  -- the same in a memory, where a record more is used
-  pub go_on : (ns : List Node) (us vs : List TypeNode) (m k n i : ℕ) (x : TypeNode) → i < length l → m < length us → vs ≡ set us m x → k ≡ m + 1 → n ≡ length ns → Partly ns (graph us m) i → Fresh l n i (view x) → Partly ns (graph vs k) (i + 1)
-  go_on ns us vs m k n i x h room ev ek en p f =
-      partly_more ns (graph us m) i h p (graph vs k) (view x) (ap₂ graph ev ek ∙ graph_push us m x room) (subst (λ (j : ℕ). Fresh l j i (view x)) en f)

@@ -1,7 +1,7 @@
 // Type graphs in a lent memory of type nodes: classes of nodes that have the same type, and their unification.
 #![tactic(auto)]
 
-ghost use Rattle.std.specs.Prelude.{◌≡◌, ℕ, ◌+◌, ◌<◌, ◌≤◌, map, length, slice_index_or, slice_set};
+ghost use Rattle.std.specs.Prelude.{◌≡◌, ℕ, ◌+◌, ◌<◌, ◌≤◌, map, [], ◌∷◌, ◌++◌, length, slice_index_or};
 ghost use Rattle.graph.specs.Graph.{view, record_of, Solves, Sound, alive, Kept, Always, Still};
 ghost use Rattle.graph.specs.Memory.{nodes, InPlace};
 ghost use Rattle.graph.specs.Unifying.{compared, Merged, Unified};
@@ -196,7 +196,7 @@ impl Graph<'_> {
         ensures kept { InPlace self.old self.new }
         ensures place { result ≡ self.old.used }
         ensures used { self.new.used ≡ self.old.used + 1 }
-        ensures memory { self.new.memory.now ≡ slice_set self.old.memory.now self.old.used node }
+        ensures nodes { nodes self.new ≡ nodes self.old ++ view node ∷ [] }
     {
         let place = self.used;
         self.memory[place] = node;

@@ -1,21 +1,21 @@
 -- Function types and calls at the end of a graph.
-use Rattle.std.proofs.Common.{◌≡◌, ℕ, ◌+◌, ◌<◌, ◌≤◌, Option, Some, None, Result, Ok, Err, List, [], ◌∷◌, ◌++◌, map, take, length, set, sym, ◌∙◌, subst, ap₂, arith}
-use Rattle.std.proofs.lemmas.List.{length-set, length-map, length-take}
+use Rattle.std.proofs.Common.{◌≡◌, ℕ, ◌+◌, ◌<◌, ◌≤◌, Some, None, Result, Ok, Err, List, [], ◌∷◌, ◌++◌, length, sym, ◌∙◌, ap₂, arith}
 use Rattle.types.specs.Types.{Ty, arrow}
-use Rattle.types.specs.Lists.{node, zero_node}
-use Rattle.types.specs.declared.TypeNode.{TypeNode}
-use Rattle.graph.specs.Graph.{view, Solves, Sound, graph}
+use Rattle.graph.specs.Graph.{Solves, Sound}
 use Rattle.graph.specs.Unifying.{Unified, Apart}
 use Rattle.std.specs.Result.{result_ok}
 use Rattle.graph.specs.declared.Clash.{Clash}
 use Rattle.graph.specs.declared.Node.{Node}
 use Rattle.graph.specs.declared.Node.TheVariants.{Var, Branch}
-use Rattle.graph.proofs.Memory.{graph_length, graph_push, graph_front}
+use Rattle.graph.proofs.Memory.{graph_length}
+use Rattle.graph.specs.Memory.{nodes}
+use Rattle.graph.specs.declared.Graph.{Graph}
+use Rattle.graph.proofs.Memory.{graph_length}
 use Rattle.copy.specs.Told.{Agree, Told, Never}
 use Rattle.copy.proofs.Grow.{upd, upd_same, upd_below, pushed_length, pushed_sound, pushed_pop, pushed_last, pushed_onto}
 use Rattle.infer.specs.Passes.{OfCall, OfArrow, Refused}
 
-told_arrow : (ns ms : List Node) (a b i : ℕ) → Sound ns → a < length ns → b < length ns → i ≡ length ns → ms ≡ ns ++ Branch 2 a b ∷ [] → Told ns ms i (OfArrow a b)
+pub told_arrow : (ns ms : List Node) (a b i : ℕ) → Sound ns → a < length ns → b < length ns → i ≡ length ns → ms ≡ ns ++ Branch 2 a b ∷ [] → Told ns ms i (OfArrow a b)
 told_arrow ns ms a b i sound ha hb ei e =
     let len = pushed_length ns ms (Branch 2 a b) e in
     record {
@@ -36,7 +36,7 @@ module _ (ns n1 n2 : List Node) (g y r h : ℕ) (sound : Sound ns) (hg : g < len
   sound1 : Sound n1
   sound1 = pushed_sound ns n1 Var e1 sound tt
 
-  call_sound : Sound n2
+  pub call_sound : Sound n2
   call_sound = pushed_sound n1 n2 (Branch 2 y r) e2 sound1 (omega (arith, pushed_length ns n1 Var e1))
 
   call_onto : (v : ℕ → Ty) (τ : Ty) → Solves v ns → OfCall g y v τ → (w : ℕ → Ty) × Agree (length ns) w v × Solves w n2 × (w g ≡ w h) × (w r ≡ τ)
@@ -55,7 +55,7 @@ module _ (ns n1 n2 : List Node) (g y r h : ℕ) (sound : Sound ns) (hg : g < len
       let s2 : Solves w n2 = pushed_onto n1 n2 (Branch 2 y r) e2 u h (arrow (v y) τ) eh sound1 s1 (wh ∙ ap₂ arrow (sym (wy ∙ uy)) (sym (wr ∙ ur))) in
       (w, (λ k l. upd_below u h (arrow (v y) τ) k (omega arith) ∙ upd_below v r τ k (omega arith)), s2, wg ∙ ug ∙ t ∙ sym wh, wr ∙ ur)
 
-  told_call : (ms : List Node) → length ms ≡ length n2 → Unified n2 ms g h (Ok tt) → Told ns ms r (OfCall g y)
+  pub told_call : (ms : List Node) → length ms ≡ length n2 → Unified n2 ms g h (Ok tt) → Told ns ms r (OfCall g y)
   told_call ms len k =
       let l1 = pushed_length ns n1 Var e1 in
       let l2 = pushed_length n1 n2 (Branch 2 y r) e2 in
@@ -70,59 +70,35 @@ module _ (ns n1 n2 : List Node) (g y r h : ℕ) (sound : Sound ns) (hg : g < len
         onto = λ v τ s t. (let c = call_onto v τ s t in (c.0, c.1, (k.onto c.0 c.2 c.3).0, c.4));
       }
 
-  no_call : Apart n2 g h → Never ns (OfCall g y)
+  pub no_call : Apart n2 g h → Never ns (OfCall g y)
   no_call apart v τ s t = let c = call_onto v τ s t in apart c.0 c.2 c.3
 
 -- what unification answers, as an option
-unified_ok : (ns ms : List Node) (a b : ℕ) (r : Result Unit Clash) (o : Unit) → Some o ≡ result_ok r → Unified ns ms a b r → Unified ns ms a b (Ok tt)
+pub unified_ok : (ns ms : List Node) (a b : ℕ) (r : Result Unit Clash) (o : Unit) → Some o ≡ result_ok r → Unified ns ms a b r → Unified ns ms a b (Ok tt)
 unified_ok ns ms a b (Ok w) o e u = u
 unified_ok ns ms a b (Err c) o e u = absurd (cc)
 
-unified_err : (ns ms : List Node) (a b : ℕ) (r : Result Unit Clash) → None ≡ result_ok r → Unified ns ms a b r → Apart ns a b
+pub unified_err : (ns ms : List Node) (a b : ℕ) (r : Result Unit Clash) → None ≡ result_ok r → Unified ns ms a b r → Apart ns a b
 unified_err ns ms a b (Ok w) e u = absurd (cc)
 unified_err ns ms a b (Err c) e u = u
 
--- the same in a memory
-pub mem_close : (ts : List TypeNode) (n a b : ℕ) → Sound (graph ts n) → n + 1 ≤ length ts → a < n → b < n → Told (graph ts n) (graph (set ts n (node 2 a b)) (n + 1)) n (OfArrow a b)
-mem_close ts n a b sound room ha hb =
-    let l = graph_length ts n (omega arith) in
-    told_arrow (graph ts n) (graph (set ts n (node 2 a b)) (n + 1)) a b n sound (omega (arith, l)) (omega (arith, l)) (sym l) (graph_push ts n (node 2 a b) (omega arith))
+-- the same where the graphs stand in a memory
+module _ (g0 g1 g2 : Graph) (f y r h : ℕ) (sound : Sound (nodes g0)) (room : g0.used + 2 ≤ length g0.memory.now) (hf : f < g0.used) (hy : y < g0.used) (er : r ≡ g0.used) (u1 : g1.used ≡ g0.used + 1) (m1 : length g1.memory.now ≡ length g0.memory.now) (e1 : nodes g1 ≡ nodes g0 ++ Var ∷ []) (eh : h ≡ g1.used) (u2 : g2.used ≡ g1.used + 1) (m2 : length g2.memory.now ≡ length g1.memory.now) (e2 : nodes g2 ≡ nodes g1 ++ Branch 2 y r ∷ []) where
+  l0 : length (nodes g0) ≡ g0.used
+  l0 = graph_length g0.memory.now g0.used (omega arith)
 
-module _ (ts : List TypeNode) (n g y : ℕ) (sound : Sound (graph ts n)) (room : n + 2 ≤ length ts) (hg : g < n) (hy : y < n) where
-  abbrev one : List TypeNode
-  one = set ts n zero_node
+  l1 : length (nodes g1) ≡ g1.used
+  l1 = graph_length g1.memory.now g1.used (omega arith)
 
-  abbrev two : List TypeNode
-  two = set one (n + 1) (node 2 y n)
+  l2 : length (nodes g2) ≡ g2.used
+  l2 = graph_length g2.memory.now g2.used (omega arith)
 
-  l0 : length (graph ts n) ≡ n
-  l0 = graph_length ts n (omega arith)
+  module _ (g3 : Graph) (u : Result Unit Clash) (unified : Unified (nodes g2) (nodes g3) f h u) where
+    pub calls : (o : Unit) → Some o ≡ result_ok u → g3.used ≡ g2.used → length g3.memory.now ≡ length g2.memory.now → Told (nodes g0) (nodes g3) r (OfCall f y)
+    calls o e u3 m3 =
+        let l3 = graph_length g3.memory.now g3.used (omega arith) in
+        told_call (nodes g0) (nodes g1) (nodes g2) f y r h sound (omega (arith, l0)) (omega (arith, l0)) (omega (arith, l0)) e1 (omega (arith, l1)) e2 (nodes g3) (omega (arith, l2)) (unified_ok _ _ _ _ u o e unified)
 
-  l1 : length (graph one (n + 1)) ≡ n + 1
-  l1 = graph_length one (n + 1) (omega (arith, length-set ts n zero_node))
-
-  e1 : graph one (n + 1) ≡ graph ts n ++ Var ∷ []
-  e1 = graph_push ts n zero_node (omega arith)
-
-  e2 : graph two (n + 2) ≡ graph one (n + 1) ++ Branch 2 y n ∷ []
-  e2 =
-      let q : n + 1 + 1 ≡ n + 2 = omega arith in
-      subst (λ (m : ℕ). graph two m ≡ graph one (n + 1) ++ Branch 2 y n ∷ []) q (graph_push one (n + 1) (node 2 y n) (omega (arith, length-set ts n zero_node)))
-
-  pub mem_sound : Sound (graph two (n + 2))
-  mem_sound = call_sound (graph ts n) (graph one (n + 1)) (graph two (n + 2)) g y n (n + 1) sound (omega (arith, l0)) (omega (arith, l0)) (sym l0) e1 (sym l1) e2
-
-  pub mem_long : length two ≡ length ts
-  mem_long = omega (arith, length-set ts n zero_node, length-set one (n + 1) (node 2 y n))
-
-  -- the first n + 2 records are lent to be unified, and become us
-  module _ (us : List TypeNode) (r : Result Unit Clash) (u : Unified (graph two (n + 2)) (map view us) g (n + 1) r) where
-    pub mem_told : (rest : List TypeNode) (o : Unit) → length us ≡ length (take (n + 2) two) → Some o ≡ result_ok r → Told (graph ts n) (graph (us ++ rest) (n + 2)) n (OfCall g y)
-    mem_told rest o long e =
-        let full : length us ≡ n + 2 = omega (arith, length-take (n + 2) two, mem_long) in
-        rw (graph_front us rest (n + 2) full)
-        (told_call (graph ts n) (graph one (n + 1)) (graph two (n + 2)) g y n (n + 1) sound (omega (arith, l0)) (omega (arith, l0)) (sym l0) e1 (sym l1) e2
-        (map view us) (omega (arith, length-map us view, graph_length two (n + 2) (omega (arith, mem_long)))) (unified_ok _ _ _ _ r o e u))
-
-    pub mem_none : None ≡ result_ok r → Refused (graph ts n) (OfCall g y)
-    mem_none e = record { never = no_call (graph ts n) (graph one (n + 1)) (graph two (n + 2)) g y n (n + 1) sound (omega (arith, l0)) (omega (arith, l0)) (sym l0) e1 (sym l1) e2 (unified_err _ _ _ _ r e u) }
+    pub calls_none : None ≡ result_ok u → Refused (nodes g0) (OfCall f y)
+    calls_none e =
+        record { never = no_call (nodes g0) (nodes g1) (nodes g2) f y r h sound (omega (arith, l0)) (omega (arith, l0)) (omega (arith, l0)) e1 (omega (arith, l1)) e2 (unified_err _ _ _ _ u e unified) }

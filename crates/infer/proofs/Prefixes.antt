@@ -1,42 +1,37 @@
 -- Which term stands at a place, by the node there.
-use Rattle.std.proofs.Common.{◌≡◌, ℕ, ◌+◌, ◌<◌, List, ◌∷◌, ◌++◌, length, get_or, take, drop, set, sym, refl, ap, ◌∙◌, subst, append_assoc, arith}
+use Rattle.std.proofs.Common.{◌≡◌, ℕ, ◌+◌, ◌<◌, Option, Some, None, List, ◌∷◌, ◌++◌, length, get_or, take, drop, set, sym, refl, ap, ◌∙◌, subst, append_assoc, arith}
 use Rattle.std.proofs.lemmas.List.{drop_more, drop-drop, drop_at, length-drop, take-take, take-set}
 use Rattle.term.specs.Terms.{Term, variable, abstraction, application, primitive, reference, prefix, zero_node}
 use Rattle.term.specs.declared.TermNode.{TermNode}
+use Rattle.term.specs.Symbols.{symbol_of}
 use Rattle.copy.specs.Instances.{Lists}
-use Rattle.infer.specs.declared.Leaf.{Leaf}
-use Rattle.infer.specs.declared.Leaf.TheVariants.{Nothing, Variable, Primitive, Reference}
-use Rattle.infer.specs.declared.Head.{Head}
-use Rattle.infer.specs.declared.Head.TheVariants.{Single, Abstraction, Application}
+use Rattle.term.specs.declared.Symbol.{Symbol}
+use Rattle.term.specs.declared.Symbol.TheVariants.{Variable, Abstraction, Application, Primitive, Reference}
 use Rattle.infer.specs.Typing.{size}
 use Rattle.infer.specs.Heads.{head_of, head_need, need}
 use Rattle.infer.specs.Passes.{Stands}
 
--- the node at place i has the head h
-abbrev pub Starts : List TermNode → ℕ → Head → Type 0
-Starts ts i h = (i < length ts) × (h ≡ head_of (get_or ts i zero_node))
+-- the node at place i says s
+abbrev pub Starts : List TermNode → ℕ → Option Symbol → Type 0
+Starts ts i s = (i < length ts) × (s ≡ head_of (get_or ts i zero_node))
 
-pub need_at : (E K : Lists) (ts : List TermNode) (i : ℕ) (h : Head) → Starts ts i h → need E K (drop i ts) ≡ head_need E K h + need E K (drop (i + 1) ts)
-need_at E K ts i h s = ap (need E K) (drop_more ts i zero_node s.0) ∙ ap (λ (g : Head). head_need E K g + need E K (drop (i + 1) ts)) (sym s.1)
+pub starts_some : (ts : List TermNode) (i : ℕ) (n : TermNode) (r s : Symbol) → (i < length ts) × ((d : TermNode) → n ≡ get_or ts i d) → Some r ≡ symbol_of n → r ≡ s → Starts ts i (Some s)
+starts_some ts i n r s h e q = (h.0, ap Some (sym q) ∙ e ∙ ap symbol_of (h.1 zero_node))
 
--- which term a node without parts is
-abbrev pub IsLeaf : Term → Leaf → Type 0
-IsLeaf t Nothing = ⊥
-IsLeaf t (Variable k) = t ≡ variable k
-IsLeaf t (Primitive k) = t ≡ primitive k
-IsLeaf t (Reference k) = t ≡ reference k
+pub starts_none : (ts : List TermNode) (i : ℕ) (n : TermNode) → (i < length ts) × ((d : TermNode) → n ≡ get_or ts i d) → None ≡ symbol_of n → Starts ts i None
+starts_none ts i n h e = (h.0, e ∙ ap symbol_of (h.1 zero_node))
 
-pub leaf_size : (t : Term) (l : Leaf) → IsLeaf t l → size t ≡ 1
-leaf_size t Nothing e = absurd e
-leaf_size t (Variable k) e = ap size e
-leaf_size t (Primitive k) e = ap size e
-leaf_size t (Reference k) e = ap size e
+pub need_at : (E K : Lists) (ts : List TermNode) (i : ℕ) (s : Option Symbol) → Starts ts i s → need E K (drop i ts) ≡ head_need E K s + need E K (drop (i + 1) ts)
+need_at E K ts i s h = ap (need E K) (drop_more ts i zero_node h.0) ∙ ap (λ (r : Option Symbol). head_need E K r + need E K (drop (i + 1) ts)) (sym h.1)
 
 -- what the node at place i says of the term that stands there
-abbrev pub Opens : List TermNode → ℕ → Term → Head → Type 0
-Opens ts i t (Single l) = IsLeaf t l
-Opens ts i t Abstraction = (b : Term) × (t ≡ abstraction b) × Stands ts (i + 1) b
-Opens ts i t Application = (f : Term) × (x : Term) × (t ≡ application f x) × Stands ts (i + 1) f × Stands ts (i + 1 + size f) x
+abbrev pub Opens : List TermNode → ℕ → Term → Option Symbol → Type 0
+Opens ts i t None = ⊥
+Opens ts i t (Some (Variable k)) = t ≡ variable k
+Opens ts i t (Some Abstraction) = (b : Term) × (t ≡ abstraction b) × Stands ts (i + 1) b
+Opens ts i t (Some Application) = (f : Term) × (x : Term) × (t ≡ application f x) × Stands ts (i + 1) f × Stands ts (i + 1 + size f) x
+Opens ts i t (Some (Primitive k)) = t ≡ primitive k
+Opens ts i t (Some (Reference k)) = t ≡ reference k
 
 drop_front : (ts : List TermNode) (i : ℕ) (n : TermNode) (ns : List TermNode) → drop i ts ≡ n ∷ ns → (i < length ts) × (get_or ts i zero_node ≡ n) × (drop (i + 1) ts ≡ ns)
 drop_front ts i n ns e =
@@ -58,7 +53,7 @@ module _ (ts : List TermNode) (i : ℕ) where
   opened (primitive k) s = subst (λ (n : TermNode). Opens ts i (primitive k) (head_of n)) (sym (drop_front ts i _ _ s.1).1) refl
   opened (reference k) s = subst (λ (n : TermNode). Opens ts i (reference k) (head_of n)) (sym (drop_front ts i _ _ s.1).1) refl
 
-  pub opens : (t : Term) (h : Head) → h ≡ head_of (get_or ts i zero_node) → Stands ts i t → Opens ts i t h
+  pub opens : (t : Term) (h : Option Symbol) → h ≡ head_of (get_or ts i zero_node) → Stands ts i t → Opens ts i t h
   opens t h e s = subst (Opens ts i t) (sym e) (opened t s)
 
   pub stands_within : (t : Term) → Stands ts i t → i < length ts

@@ -3,18 +3,18 @@ use Rattle.std.proofs.Common.{◌≡◌, ℕ, suc, ◌+◌, ◌-◌, ◌<◌, �
 use Rattle.std.proofs.lemmas.List.{length-reverse, length-map, get_or-reverse, reverse-append, get_or-map}
 use Rattle.std.proofs.lemmas.Bool.{cases_lt}
 use Rattle.types.specs.Types.{Ty, base, arrow}
-use Rattle.term.specs.Terms.{Term, abstraction, application}
+use Rattle.term.specs.Terms.{Term, variable, abstraction, application, primitive, reference}
 use Rattle.graph.specs.Graph.{Solves, Sound}
 use Rattle.graph.specs.declared.Node.{Node}
 use Rattle.graph.specs.declared.Node.TheVariants.{Var}
 use Rattle.copy.specs.Instances.{Lists}
 use Rattle.copy.specs.Told.{Agree, Told, Never}
 use Rattle.copy.proofs.Grow.{upd, upd_same, upd_below, pushed_length, pushed_pop, pushed_onto}
-use Rattle.infer.specs.declared.Leaf.{Leaf}
-use Rattle.infer.specs.declared.Leaf.TheVariants.{Nothing, Variable, Primitive, Reference}
+use Rattle.term.specs.declared.Symbol.{Symbol}
+use Rattle.term.specs.declared.Symbol.TheVariants.{Variable, Primitive, Reference}
 use Rattle.infer.specs.Typing.{size, Typing}
-use Rattle.infer.specs.Passes.{types, Scoped, OfLeaf, OfCall, OfArrow, Gives, Typed, Untyped}
-use Rattle.infer.proofs.Prefixes.{IsLeaf}
+use Rattle.infer.specs.Scopes.{Scoped}
+use Rattle.infer.specs.Passes.{types, OfLeaf, OfCall, OfArrow, Gives, Typed, Untyped}
 use Rattle.infer.proofs.Typings.{size_application, some_node, typing_same}
 
 -- the types of what is in scope
@@ -49,23 +49,25 @@ module _ (E K : Lists) where
   no_variable ns xs k h v τ s d = omega (arith, d.0, length-map (reverse xs) v, length-reverse xs)
 
   -- a term of one node, whose typings are what the leaf allows
-  record Alone (xs : List ℕ) (l : Leaf) (t : Term) : Type 0 where
-    one : size t ≡ 1
-    to : (v T : ℕ → Ty) (i : ℕ) → Typing E K (types v xs) t T i → OfLeaf E K xs l v (T i)
-    from : (v T : ℕ → Ty) (i : ℕ) → OfLeaf E K xs l v (T i) → Typing E K (types v xs) t T i
+  pub record Alone (xs : List ℕ) (l : Symbol) (t : Term) : Type 0 where
+    pub one : size t ≡ 1
+    pub to : (v T : ℕ → Ty) (i : ℕ) → Typing E K (types v xs) t T i → OfLeaf E K xs l v (T i)
+    pub from : (v T : ℕ → Ty) (i : ℕ) → OfLeaf E K xs l v (T i) → Typing E K (types v xs) t T i
 
-  alone : (xs : List ℕ) (l : Leaf) (t : Term) → IsLeaf t l → Alone xs l t
-  alone xs Nothing t e = absurd e
-  alone xs (Variable k) t e = subst (Alone xs (Variable k)) (sym e) record { one = refl; to = λ v T i d. d; from = λ v T i d. d }
-  alone xs (Primitive k) t e = subst (Alone xs (Primitive k)) (sym e) record { one = refl; to = λ v T i d. d; from = λ v T i d. d }
-  alone xs (Reference k) t e = subst (Alone xs (Reference k)) (sym e) record { one = refl; to = λ v T i d. d; from = λ v T i d. d }
+  pub alone_variable : (xs : List ℕ) (k : ℕ) (t : Term) → t ≡ variable k → Alone xs (Variable k) t
+  alone_variable xs k t e = subst (Alone xs (Variable k)) (sym e) record { one = refl; to = λ v T i d. d; from = λ v T i d. d }
 
-  pub untyped_leaf : (ns : List Node) (xs : List ℕ) (i : ℕ) (l : Leaf) (t : Term) → IsLeaf t l → Never ns (OfLeaf E K xs l) → Untyped E K ns xs i t
-  untyped_leaf ns xs i l t is never v T s d = never v (T i) s ((alone xs l t is).to v T i d)
+  pub alone_primitive : (xs : List ℕ) (k : ℕ) (t : Term) → t ≡ primitive k → Alone xs (Primitive k) t
+  alone_primitive xs k t e = subst (Alone xs (Primitive k)) (sym e) record { one = refl; to = λ v T i d. d; from = λ v T i d. d }
 
-  pub typed_leaf : (ns ms : List Node) (xs qs : List ℕ) (i a : ℕ) (l : Leaf) (t : Term) → IsLeaf t l → get_or qs i 0 ≡ a → Told ns ms a (OfLeaf E K xs l) → Typed E K ns ms xs qs i t
-  typed_leaf ns ms xs qs i a l t is e p =
-      let one = alone xs l t is in
+  pub alone_reference : (xs : List ℕ) (k : ℕ) (t : Term) → t ≡ reference k → Alone xs (Reference k) t
+  alone_reference xs k t e = subst (Alone xs (Reference k)) (sym e) record { one = refl; to = λ v T i d. d; from = λ v T i d. d }
+
+  pub untyped_leaf : (ns : List Node) (xs : List ℕ) (i : ℕ) (l : Symbol) (t : Term) → Alone xs l t → Never ns (OfLeaf E K xs l) → Untyped E K ns xs i t
+  untyped_leaf ns xs i l t is never v T s d = never v (T i) s (is.to v T i d)
+
+  pub typed_leaf : (ns ms : List Node) (xs qs : List ℕ) (i a : ℕ) (l : Symbol) (t : Term) → Alone xs l t → get_or qs i 0 ≡ a → Told ns ms a (OfLeaf E K xs l) → Typed E K ns ms xs qs i t
+  typed_leaf ns ms xs qs i a l t one e p =
       let z = one.one in
       let only : (P : ℕ → Type 0) → P i → (j : ℕ) → i ≤ j → j < i + size t → P j = (λ P here j h k. let q : i ≡ j = omega arith in subst P q here) in
       record {

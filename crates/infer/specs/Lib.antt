@@ -1,3 +1,4 @@
 pub mod Typing
 pub mod Heads
+pub mod Scopes
 pub mod Passes

@@ -8,20 +8,19 @@ use Rattle.graph.specs.Graph.{Solves, Sound, graph}
 use Rattle.graph.specs.declared.Node.{Node}
 use Rattle.copy.specs.Instances.{Lists, OfList}
 use Rattle.copy.specs.Told.{Agree, Told, Never}
-use Rattle.copy.specs.declared.Made.{Made}
 use Rattle.infer.specs.declared.Found.{Found}
-use Rattle.infer.specs.declared.Leaf.{Leaf}
-use Rattle.infer.specs.declared.Leaf.TheVariants.{Nothing, Variable, Primitive, Reference}
+use Rattle.infer.specs.declared.Scope.{Scope}
+use Rattle.infer.specs.Scopes.{held}
+use Rattle.term.specs.declared.Symbol.{Symbol}
+use Rattle.term.specs.declared.Symbol.TheVariants.{Variable, Abstraction, Application, Primitive, Reference}
+use Rattle.graph.specs.declared.Graph.{Graph}
+use Rattle.graph.specs.Memory.{nodes}
 use Rattle.infer.specs.Typing.{size, Typing, HasType}
-use Rattle.infer.specs.Heads.{leaf_need, need}
+use Rattle.infer.specs.Heads.{need}
 
 -- the types of the binders in scope, whose graph nodes are xs: the innermost, which is the last of xs, comes first
 abbrev pub types : (ℕ → Ty) → List ℕ → List Ty
 types v xs = map v (reverse xs)
-
--- the numbers are graph nodes below n
-abbrev pub Scoped : List ℕ → ℕ → Type 0
-Scoped xs n = (k : ℕ) → k < length xs → slice_index xs k < n
 
 -- what valuations may give a node: the type of an arrow, of the result of a call, of a node without parts
 abbrev pub OfArrow : ℕ → ℕ → (ℕ → Ty) → Ty → Type 0
@@ -30,9 +29,10 @@ OfArrow a b v τ = τ ≡ arrow (v a) (v b)
 abbrev pub OfCall : ℕ → ℕ → (ℕ → Ty) → Ty → Type 0
 OfCall f a v τ = v f ≡ arrow (v a) τ
 
-abbrev pub OfLeaf : Lists → Lists → List ℕ → Leaf → (ℕ → Ty) → Ty → Type 0
-OfLeaf E K xs Nothing v τ = ⊥
+abbrev pub OfLeaf : Lists → Lists → List ℕ → Symbol → (ℕ → Ty) → Ty → Type 0
 OfLeaf E K xs (Variable n) v τ = (n < length (types v xs)) × (slice_index_or (types v xs) n (base 0) ≡ τ)
+OfLeaf E K xs Abstraction v τ = ⊥
+OfLeaf E K xs Application v τ = ⊥
 OfLeaf E K xs (Primitive k) v τ = OfList (E k) τ
 OfLeaf E K xs (Reference n) v τ = OfList (K n) τ
 
@@ -43,14 +43,6 @@ pub record Refused (ns : List Node) (E : (ℕ → Ty) → Ty → Type 0) : Type 
 abbrev pub Called : List Node → List Node → ℕ → ℕ → Option ℕ → Type 0
 Called ns ms f a (Some i) = Told ns ms i (OfCall f a)
 Called ns ms f a None = Refused ns (OfCall f a)
-
-pub record Placed (E K : Lists) (xs : List ℕ) (l : Leaf) (us ws : List TypeNode) (n : ℕ) (m : Made) : Type 0 where
-  pub needed : m.used ≡ n + leaf_need E K l
-  pub told : Told (graph us n) (graph ws m.used) m.node (OfLeaf E K xs l)
-
-abbrev pub LeafPlaced : Lists → Lists → List ℕ → Leaf → List TypeNode → List TypeNode → ℕ → Option Made → Type 0
-LeafPlaced E K xs l us ws n (Some m) = Placed E K xs l us ws n m
-LeafPlaced E K xs l us ws n None = Refused (graph us n) (OfLeaf E K xs l)
 
 -- the nodes of the term stand from place i on
 abbrev pub Stands : List TermNode → ℕ → Term → Type 0
@@ -73,27 +65,28 @@ pub record Typed (E K : Lists) (ns ms : List Node) (xs qs : List ℕ) (i : ℕ) 
 abbrev pub Untyped : Lists → Lists → List Node → List ℕ → ℕ → Term → Type 0
 Untyped E K ns xs i t = (v T : ℕ → Ty) → Solves v ns → Typing E K (types v xs) t T i → ⊥
 
--- what is found at place i: the binders xs and the older places stay, and if a term stands there, it ends where the pass
+-- what is found at place i: the binders and the older places stay, and if a term stands there, it ends where the pass
 -- ended, and its typings are those of the graph
-pub record Finds (E K : Lists) (ts : List TermNode) (i : ℕ) (xs ys ps qs : List ℕ) (us ws : List TypeNode) (n : ℕ) (f : Found) : Type 0 where
+pub record Finds (E K : Lists) (ts : List TermNode) (i : ℕ) (s t : Scope) (ps qs : List ℕ) (g h : Graph) (f : Found) : Type 0 where
   pub forward : i < f.next
   pub within : f.next ≤ length ts
-  pub room : f.used + need E K (drop f.next ts) ≡ n + need E K (drop i ts)
-  pub scope : ys ≡ xs
+  pub room : h.used + need E K (drop f.next ts) ≡ g.used + need E K (drop i ts)
+  pub scope : held t ≡ held s
+  pub depth : t.depth ≡ s.depth
   pub older : (p : ℕ) → p < i → slice_index qs p ≡ slice_index ps p
   pub node : f.node ≡ slice_index qs i
-  pub sound : Sound (graph ws f.used)
-  pub longer : n ≤ f.used
-  pub inside : (p : ℕ) → i ≤ p → p < f.next → slice_index qs p < f.used
-  pub typed : (t : Term) → Stands ts i t → (f.next ≡ i + size t) × Typed E K (graph us n) (graph ws f.used) xs qs i t
+  pub sound : Sound (nodes h)
+  pub longer : g.used ≤ h.used
+  pub inside : (p : ℕ) → i ≤ p → p < f.next → slice_index qs p < h.used
+  pub typed : (u : Term) → Stands ts i u → (f.next ≡ i + size u) × Typed E K (nodes g) (nodes h) (held s) qs i u
 
 -- a term that stands at place i has no typing
-pub record Clashes (E K : Lists) (ts : List TermNode) (i : ℕ) (xs : List ℕ) (us : List TypeNode) (n : ℕ) : Type 0 where
-  pub untyped : (t : Term) → Stands ts i t → Untyped E K (graph us n) xs i t
+pub record Clashes (E K : Lists) (ts : List TermNode) (i : ℕ) (xs : List ℕ) (g : Graph) : Type 0 where
+  pub untyped : (t : Term) → Stands ts i t → Untyped E K (nodes g) xs i t
 
-abbrev pub Passed : Lists → Lists → List TermNode → ℕ → List ℕ → List ℕ → List ℕ → List ℕ → List TypeNode → List TypeNode → ℕ → Option Found → Type 0
-Passed E K ts i xs ys ps qs us ws n (Some f) = Finds E K ts i xs ys ps qs us ws n f
-Passed E K ts i xs ys ps qs us ws n None = Clashes E K ts i xs us n
+abbrev pub Passed : Lists → Lists → List TermNode → ℕ → Scope → Scope → List ℕ → List ℕ → Graph → Graph → Option Found → Type 0
+Passed E K ts i s t ps qs g h (Some f) = Finds E K ts i s t ps qs g h f
+Passed E K ts i s t ps qs g h None = Clashes E K ts i (held s) g
 
 -- the graph in the first n records is that of the term t, whose nodes have the graph nodes qs
 pub record Built (E K : Lists) (t : Term) (qs : List ℕ) (ms : List Node) : Type 0 where

@@ -1,11 +1,9 @@
-use Rattle.infer.proofs.Whole.{inferred, untypable, no_term}
+use Rattle.std.proofs.Common.{refl, arith}
+use Rattle.infer.proofs.Whole.{answered, untypable}
 use Rattle.infer.proofs.infer.Goals as goal
 
-pub returns-then-found-terms : goal.returns-then-found-terms
-returns-then-found-terms g c = inferred _ _ _ _ _ _ _ _ c.in_ok-found.found c.in_ok-found.ensures c.if-found-terms.true
-
-pub returns-else-found-terms : goal.returns-else-found-terms
-returns-else-found-terms g c = no_term _ _ _ _ _ _ _ _ c.in_ok-found.found c.in_ok-found.ensures c.if-found-terms.false
+pub returns : goal.returns
+returns g c = rw c.then_some.ensures (answered _ _ _ _ refl _ refl refl _ _ _ c.pass.new.graph c.in_ok-found.found _ (grind (arith, c.in_ok-found.ensures.graph.0)) c.in_ok-found.ensures.passed)
 
 pub returns-in_err-found : goal.returns-in_err-found
-returns-in_err-found g c = rw c.from_residual.ensures (untypable _ _ _ c.args.memory.now c.in_err-found.ensures)
+returns-in_err-found g c = rw c.from_residual.ensures (untypable _ _ _ _ _ refl refl c.in_err-found.ensures.passed)

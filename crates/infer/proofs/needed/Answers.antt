@@ -1,20 +1,13 @@
-use Rattle.std.proofs.Common.{get_or, refl, ap, arith, drop_of_length-le}
-use Rattle.term.specs.Terms.{zero_node}
+use Rattle.std.proofs.Common.{refl, rules}
+use Rattle.std.proofs.iter.runs.Made.{chains}
+use Rattle.std.proofs.lemmas.List.Recursion.{is_sum_by}
+use Rattle.term.specs.declared.TermNode.{TermNode}
 use Rattle.copy.specs.Instances.{Lists}
-use Rattle.infer.specs.Heads.{head_of, need as total}
-use Rattle.infer.proofs.Prefixes.{need_at}
+use Rattle.infer.specs.Heads.{head_of, head_need, need as total}
 use Rattle.infer.proofs.needed.Goals as goal
-
-pub loop-i-preserved : goal.loop-i-preserved
-loop-i-preserved g c =
-    let E : Lists = g.E.Source.list c.args.entries.now in
-    let K : Lists = g.K.Source.list c.args.kept.now in
-    let inv = c.loop-i.invariant in
-    let q = need_at E K c.args.terms.now c.loop-i.i (head_of (get_or c.args.terms.now c.loop-i.i zero_node)) (c.loop-i-test.true, refl) in
-    (omega (arith, c.loop-i-test.true), omega (arith, inv.1, q, c.need_of.ensures), omega (arith, inv.2))
 
 pub returns : goal.returns
 returns g c =
     let E : Lists = g.E.Source.list c.args.entries.now in
     let K : Lists = g.K.Source.list c.args.kept.now in
-    omega (arith, c.loop-i.invariant.1, ap (total E K) (drop_of_length-le c.args.terms.now c.loop-i-test.false))
+    rw (is_sum_by (total E K) (λ (n : TermNode). head_need E K (head_of n)) refl (λ _ _. refl) c.args.terms.now) (search (rules, chains))
