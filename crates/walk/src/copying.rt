@@ -1,5 +1,5 @@
 // A list of type nodes copied into a graph memory, in which nodes of equal records, as those of one variable, are one class.
-ghost use Rattle.std.specs.Prelude.{◌≡◌, ℕ, ◌+◌, ◌-◌, ◌<◌, ◌≤◌, length, MatchOption, ◌≢◌, slice_index_or};
+ghost use Rattle.std.specs.Prelude.{◌≡◌, ℕ, ◌<◌, ◌≤◌, length, MatchOption, ◌≢◌, slice_index_or};
 ghost use Rattle.types.specs.Lists.{zero_node};
 ghost use Rattle.graph.specs.Graph.{view};
 ghost use Rattle.walk.specs.Table.{bucket, Table};

@@ -1,5 +1,5 @@
 // The list that the walk found, gathered in three columns of numbers and then written into a memory of type nodes.
-ghost use Rattle.std.specs.Prelude.{◌≡◌, ℕ, ◌+◌, ◌-◌, ◌<◌, ◌≤◌, List, length, if◌then◌else◌, nat_eq, slice_index, slice_index_or};
+ghost use Rattle.std.specs.Prelude.{◌≡◌, ℕ, ◌+◌, ◌<◌, ◌≤◌, List, length, if◌then◌else◌, nat_eq, slice_index, slice_index_or};
 ghost use Rattle.types.specs.Types.{Ty};
 ghost use Rattle.types.specs.Lists.{node, zero_node};
 ghost use Rattle.walk.specs.Work.{State};

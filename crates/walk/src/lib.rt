@@ -1,16 +1,12 @@
 // The walk over a type graph to the normal list of the types that its nodes stand for.
 #![tactic(auto)]
 
-ghost use Rattle.std.specs.Prelude.{◌≡◌, ℕ, ◌+◌, ◌-◌, ◌<◌, ◌≤◌, List, [], map, length, MatchOption, ◌≢◌, slice_index, slice_index_or, slice_set};
-ghost use Rattle.types.specs.Types.{Ty};
-ghost use Rattle.graph.specs.Graph.{view, graph, Sound, alive, Kept, Always};
-ghost use Rattle.graph.specs.declared.Node.TheVariants.{Var};
-ghost use Rattle.walk.specs.Reads.{root, Straight, Flat};
-ghost use Rattle.walk.specs.Table.{bucket};
-ghost use Rattle.walk.specs.Work.{work, key_of, part, Marked, Origin, State, Room, Complete, Closed, Outcome};
+ghost use Rattle.std.specs.Prelude.{◌≡◌, ℕ, ◌+◌, ◌-◌, ◌<◌, ◌≤◌, map, length, slice_index};
+ghost use Rattle.graph.specs.Graph.{view, graph, Sound, Kept, Always};
+ghost use Rattle.walk.specs.Reads.{Straight, Flat};
 ghost use Rattle.types.specs.Lists.{Lawful};
 ghost use Rattle.walk.specs.Copies.{Normalized, Enough, Normalizing};
-ghost use Rattle.walk.specs.Listing.{Shut, Roots, Rest, SimpleGraph, Gathering, Listing, OneList};
+ghost use Rattle.walk.specs.Listing.{SimpleGraph, Gathering, Listing, OneList};
 
 use graph::Node;
 use types::TypeNode;
@@ -28,37 +24,31 @@ pub enum Looped {
 }
 
 // Lets a link at `i` go where the link goes that it leads to.
-fn straighten(memory: &mut [TypeNode], used: usize, i: usize)
-    requires fits { used ≤ length memory.old }
-    requires within { i < used }
-    requires sound { Sound (graph memory.old used) }
-    requires below { (k : ℕ) → k < i → Straight (graph memory.old used) k }
-    ensures kept { Kept (graph memory.old used) (graph memory.new used) Always Always }
-    ensures straight { (k : ℕ) → k < i + 1 → Straight (graph memory.new used) k }
-    ensures simple { SimpleGraph (graph memory.old used) → SimpleGraph (graph memory.new used) }
+fn straighten(graph: &mut [TypeNode], i: usize)
+    requires within { i < length graph.old }
+    requires sound { Sound (map view graph.old) }
+    requires below { (k : ℕ) → k < i → Straight (map view graph.old) k }
+    ensures kept { Kept (map view graph.old) (map view graph.new) Always Always }
+    ensures straight { (k : ℕ) → k < i + 1 → Straight (map view graph.new) k }
+    ensures simple { SimpleGraph (map view graph.old) → SimpleGraph (map view graph.new) }
 {
-    if let Node::Link(next) = graph::look(memory[i]) {
-        let there = memory[next as usize];
-        if let Node::Link(far) = graph::look(there) {
-            memory[i] = TypeNode {
-                kind: graph::LINK,
-                left: far,
-                right: 0,
-            };
+    if let Node::Link(next) = graph::look(graph[i]) {
+        let there = graph[next as usize];
+        if let Node::Link(_) = graph::look(there) {
+            graph[i] = there;
         }
     }
 }
 
 // Lets every link go straight to the node that stands for its class, from the lowest on.
-fn flatten(memory: &mut [TypeNode], used: usize)
-    requires fits { used ≤ length memory.old }
-    requires sound { Sound (graph memory.old used) }
-    ensures kept { Kept (graph memory.old used) (graph memory.new used) Always Always }
-    ensures flat { Flat (graph memory.new used) }
-    ensures simple { SimpleGraph (graph memory.old used) → SimpleGraph (graph memory.new used) }
+fn flatten(graph: &mut [TypeNode])
+    requires { Sound (map view graph.old) }
+    ensures kept { Kept (map view graph.old) (map view graph.new) Always Always }
+    ensures flat { Flat (map view graph.new) }
+    ensures simple { SimpleGraph (map view graph.old) → SimpleGraph (map view graph.new) }
 {
-    for i in 0..used {
-        straighten(memory, used, i);
+    for i in 0..graph.len() {
+        straighten(graph, i);
     }
 }
 
@@ -133,12 +123,13 @@ pub fn list_types(
     requires fourth { used ≤ length nexts.old }
     ensures { Listing (graph memory.old used) roots.old roots.new memory.new result }
 {
-    flatten(memory, used);
+    let graph = &mut memory[..used];
+    flatten(graph);
     let marks = &mut marks[..used];
     let origins = &mut origins[..used];
     let heads = &mut heads[..used];
     let nexts = &mut nexts[..used];
-    match walk_all(&memory[..used], roots, marks, origins, heads, nexts) {
+    match walk_all(graph, roots, marks, origins, heads, nexts) {
         Ok(count) => {
             let count = count as usize;
             let (rows, rest) = memory.split_at_mut(count);

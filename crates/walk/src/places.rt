@@ -1,5 +1,5 @@
 // Places found again by their keys: chains of places whose keys have one number, from the latest place down.
-ghost use Rattle.std.specs.Prelude.{◌≡◌, ℕ, ◌+◌, ◌-◌, ◌<◌, ◌≤◌, length, slice_index, slice_set};
+ghost use Rattle.std.specs.Prelude.{◌≡◌, ◌+◌, ◌<◌, length, slice_index, slice_set};
 ghost use Rattle.std.specs.Iterator.{at_most};
 ghost use Rattle.walk.specs.Table.{bucket, Falls, Goes};
 

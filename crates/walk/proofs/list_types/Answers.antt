@@ -1,19 +1,19 @@
-use Rattle.std.proofs.Common.{rules, ◌≡◌, replicate, arith}
+use Rattle.std.proofs.Common.{rules, ◌≡◌, map, take, replicate, sym, ◌∙◌, arith}
+use Rattle.std.proofs.lemmas.List.{length-map}
 use Rattle.types.specs.Lists.{zero_node}
-use Rattle.graph.specs.Graph.{graph}
-use Rattle.graph.proofs.Memory.{graph_length, same_long}
+use Rattle.graph.specs.Graph.{view, graph}
 use Rattle.walk.proofs.Whole.{listed, cleared}
 use Rattle.walk.proofs.list_types.Goals as goal
 
 pub returns-in-Ok : goal.returns-in-Ok
 returns-in-Ok c =
-    let u = c.args.used in
-    let m = c.flatten.new.memory in
-    let n = graph_length m u (omega arith) in
+    let ns = graph c.args.memory.now c.args.used in
+    let ms = map view c.flatten.new.graph in
+    let n = length-map c.flatten.new.graph view in
     let d : c.default.result ≡ zero_node = search rules in
     let f : c.fill.new.self ≡ replicate _ c.default.result = c.fill.ensures.after (λ y h. search rules) in
-    listed (graph c.args.memory.now u) (graph m u) c.args.roots.now _ _ _ _ c.in-Ok.count _ c.write_rows.new.rows c.fill.new.self
-    c.flatten.ensures.kept (same_long c.args.memory.now m u c.requires.fits c.flatten.auto.memory) c.flatten.ensures.simple
+    listed ns ms c.args.roots.now _ _ _ _ c.in-Ok.count _ c.write_rows.new.rows c.fill.new.self
+    c.flatten.ensures.kept (n ∙ c.flatten.auto.graph ∙ sym (length-map (take c.args.used c.args.memory.now) view)) c.flatten.ensures.simple
     c.in-Ok.ensures (omega (arith, c.in-Ok.ensures.within)) (λ p h. c.write_rows.ensures p (omega (arith, c.in-Ok.ensures.within))) (rw d at f)
 
 pub returns-in-Err-Loop : goal.returns-in-Err-Loop
