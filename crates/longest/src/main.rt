@@ -3,24 +3,84 @@
 
 ghost use Rattle.std.specs.Prelude.{◌≡◌, true};
 
-use std::io;
-use types::TypeNode;
+use std::{fmt, io};
+use types::{MOST_NODES, TypeNode};
 use walk::{Looped, Refused};
+
+// A list of the greatest length, and numbers to work with.
+#[derive(Drop)]
+struct Desk {
+    list: [TypeNode; MOST_NODES],
+    marks: [u32; MOST_NODES],
+    origins: [u32; MOST_NODES],
+    heads: [u32; MOST_NODES],
+    nexts: [u32; MOST_NODES],
+}
+
+impl Desk {
+    fn new(list: [TypeNode; MOST_NODES]) -> Self {
+        Desk {
+            list,
+            marks: [7; MOST_NODES],
+            origins: [7; MOST_NODES],
+            heads: [7; MOST_NODES],
+            nexts: [7; MOST_NODES],
+        }
+    }
+
+    fn normalize(&mut self, memory: &mut [TypeNode]) -> Result<usize, Refused> {
+        walk::normalize(
+            &self.list,
+            memory,
+            &mut self.marks,
+            &mut self.origins,
+            &mut self.heads,
+            &mut self.nexts,
+        )
+    }
+}
+
+// A node as it is printed.
+#[derive(Drop)]
+struct Row(TypeNode);
+
+impl fmt::Display for Row {
+    fn fmt<W: fmt::Write>(&self, f: &mut fmt::Formatter<W>) -> fmt::Result {
+        let Row(node) = self;
+        write!(f, "{} {} {}", node.kind, node.left, node.right)
+    }
+}
+
+// Each node an arrow from the node before it to the same.
+fn doubling() -> [TypeNode; MOST_NODES] {
+    let mut list = [TypeNode::default(); MOST_NODES];
+    for i in 1..MOST_NODES as u16 {
+        list[i as usize] = TypeNode::arrow(i - 1, i - 1);
+    }
+    list
+}
+
+// Every node twice, with a variable of the same number at the bottom of both.
+fn twice() -> [TypeNode; MOST_NODES] {
+    let mut list = [TypeNode::variable(4095); MOST_NODES];
+    for i in 1..MOST_NODES as u16 / 2 {
+        let (left, right) = (2 * i - 2, 2 * i - 1);
+        list[2 * i as usize] = TypeNode::arrow(left, right);
+        list[2 * i as usize + 1] = TypeNode::arrow(right, left);
+    }
+    list
+}
 
 // Whether the graph of one node, an arrow from itself to itself, has no solution.
 fn self_arrow_loops() -> bool
     ensures { result ≡ true }
 {
-    let mut memory = [TypeNode {
-        kind: 2,
-        left: 0,
-        right: 0,
-    }; 1];
-    let mut roots = [0u32; 1];
-    let mut marks = [0u32; 1];
-    let mut origins = [0u32; 1];
-    let mut heads = [0u32; 1];
-    let mut nexts = [0u32; 1];
+    let mut memory = [TypeNode::arrow(0, 0)];
+    let mut roots = [0];
+    let mut marks = [0];
+    let mut origins = [0];
+    let mut heads = [0];
+    let mut nexts = [0];
     match walk::list_types(
         &mut memory,
         1,
@@ -36,123 +96,37 @@ fn self_arrow_loops() -> bool
 }
 
 fn main(rt: HostRuntime) -> io::Result<()> {
-    let mut list = [TypeNode {
-        kind: 0,
-        left: 0,
-        right: 0,
-    }; 4096];
     let mut memory = [TypeNode {
         kind: 1,
         left: 9,
         right: 9,
-    }; 4096];
-    let mut marks = [7u32; 4096];
-    let mut origins = [7u32; 4096];
-    let mut heads = [7u32; 4096];
-    let mut nexts = [7u32; 4096];
-    // each node an arrow from the node before it to the same
-    for i in 1..4096u16 {
-        list[i as usize] = TypeNode {
-            kind: 2,
-            left: i - 1,
-            right: i - 1,
-        };
-    }
-    if let Ok(count) = walk::normalize(
-        &list,
-        &mut memory,
-        &mut marks,
-        &mut origins,
-        &mut heads,
-        &mut nexts,
-    ) {
+    }; MOST_NODES];
+    if let Ok(count) = Desk::new(doubling()).normalize(&mut memory) {
         println!(rt;
-            "doubling: {} records, at 4095: {} {} {}",
-            count, memory[4095].kind, memory[4095].left, memory[4095].right
+            "doubling: {} records, at 4095: {}",
+            count,
+            Row(memory[4095])
         )?;
     }
-    // every node twice, with a variable of the same number at the bottom of both
-    list[0] = TypeNode {
-        kind: 0,
-        left: 4095,
-        right: 0,
-    };
-    list[1] = TypeNode {
-        kind: 0,
-        left: 4095,
-        right: 0,
-    };
-    for i in 1..2048u16 {
-        list[2 * i as usize] = TypeNode {
-            kind: 2,
-            left: 2 * i - 2,
-            right: 2 * i - 1,
-        };
-        list[2 * i as usize + 1] = TypeNode {
-            kind: 2,
-            left: 2 * i - 1,
-            right: 2 * i - 2,
-        };
-    }
-    if let Ok(count) = walk::normalize(
-        &list,
-        &mut memory,
-        &mut marks,
-        &mut origins,
-        &mut heads,
-        &mut nexts,
-    ) {
+    let mut desk = Desk::new(twice());
+    if let Ok(count) = desk.normalize(&mut memory) {
         println!(rt;
-            "twice: {} records, at 2047: {} {} {}, at 2048: {} {} {}",
+            "twice: {} records, at 2047: {}, at 2048: {}",
             count,
-            memory[2047].kind,
-            memory[2047].left,
-            memory[2047].right,
-            memory[2048].kind,
-            memory[2048].left,
-            memory[2048].right
+            Row(memory[2047]),
+            Row(memory[2048])
         )?;
     }
     if self_arrow_loops() {
         println!(rt; "an arrow from itself: a loop")?;
     }
     // a node that is no type, and a memory that is too short
-    list[17] = TypeNode {
-        kind: 2,
-        left: 17,
-        right: 0,
-    };
-    if let Err(Refused::Unlawful) = walk::normalize(
-        &list,
-        &mut memory,
-        &mut marks,
-        &mut origins,
-        &mut heads,
-        &mut nexts,
-    ) {
-        println!(rt;
-            "unlawful, memory kept: {} {} {}",
-            memory[1].kind, memory[1].left, memory[1].right
-        )?;
+    desk.list[17] = TypeNode::arrow(17, 0);
+    if desk.normalize(&mut memory) == Err(Refused::Unlawful) {
+        println!(rt; "unlawful, memory kept: {}", Row(memory[1]))?;
     }
-    let mut short = [TypeNode {
-        kind: 0,
-        left: 0,
-        right: 0,
-    }; 1];
-    list[17] = TypeNode {
-        kind: 0,
-        left: 0,
-        right: 0,
-    };
-    if let Err(Refused::ShortMemory) = walk::normalize(
-        &list,
-        &mut short,
-        &mut marks,
-        &mut origins,
-        &mut heads,
-        &mut nexts,
-    ) {
+    desk.list[17] = TypeNode::default();
+    if desk.normalize(&mut memory[..1]) == Err(Refused::ShortMemory) {
         println!(rt; "short memory")?;
     }
     Ok(())

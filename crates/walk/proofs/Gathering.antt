@@ -1,7 +1,7 @@
 -- The records of the parts, gathered in columns and written.
-use Rattle.std.proofs.Common.{◌≡◌, ℕ, suc, ◌+◌, ◌-◌, ◌<◌, ◌≤◌, Bool, true, false, cond, ◌||◌, eqb, ◌≢◌, List, [], ◌∷◌, ◌++◌, length, get_or, take, set, replicate, sym, refl, ap, ◌∙◌, subst, ap₂, ⊎_elim, arith}
-use Rattle.std.proofs.lemmas.List.{length-append, length-replicate, length-take-le, take_more, get_or-set_same, get_or-set_other, get_or_append_left, get_or-append_right, get_or-replicate, ext_get_or}
-use Rattle.std.proofs.lemmas.Bool.{both_ways, cases_eq, cases_lt, cond-false, ne_eqb}
+use Rattle.std.proofs.Common.{◌≡◌, ℕ, suc, ◌+◌, ◌-◌, ◌<◌, ◌≤◌, Bool, true, false, cond, ◌||◌, eqb, ◌≢◌, List, [], ◌∷◌, ◌++◌, length, get_or, take, set, sym, refl, ap, ◌∙◌, subst, ap₂, ⊎_elim, arith}
+use Rattle.std.proofs.lemmas.List.{length-take-le, take_more, get_or-set_same, get_or-set_other}
+use Rattle.std.proofs.lemmas.Bool.{both_ways, cases_eq, cond-false, ne_eqb}
 use Rattle.types.specs.declared.TypeNode.{TypeNode}
 use Rattle.types.specs.Types.{Ty, variable, base, branch}
 use Rattle.types.specs.Lists.{node, zero_node}
@@ -88,18 +88,6 @@ module _ (ks ls rs : List ℕ) (p : ℕ) (hk : p < length ks) (hl : p < length l
         left = below_set (λ q x. x < 65536) 0 ls p l hl n.left bl;
         right = below_set (λ q x. x < 65536) 0 rs p r hr n.right br;
       }
-
--- ---- the list in a memory, with zero nodes behind it
-
-pub written : (memory list : List TypeNode) (n : ℕ) → length list ≡ n → n ≤ length memory → ((p : ℕ) → p < n → get_or memory p zero_node ≡ get_or list p zero_node) → ((p : ℕ) → n ≤ p → get_or memory p zero_node ≡ zero_node) → memory ≡ list ++ replicate (length memory - n) zero_node
-written memory list n e h below behind =
-    let long : length memory ≡ length (list ++ replicate (length memory - n) zero_node) = sym (length-append list (replicate (length memory - n) zero_node) ∙ ap₂ (λ (a b : ℕ). a + b) e (length-replicate (length memory - n) zero_node) ∙ (omega arith)) in
-    ext_get_or zero_node memory (list ++ replicate (length memory - n) zero_node) long
-    (λ i l.
-    ⊎_elim
-    (λ (lt : i < n). below i lt ∙ sym (get_or_append_left list (replicate (length memory - n) zero_node) zero_node i (omega arith)))
-    (λ (ge : n ≤ i). behind i ge ∙ sym (get_or-append_right list (replicate (length memory - n) zero_node) n i zero_node e ge ∙ get_or-replicate (length memory - n) (i - n) zero_node zero_node (omega arith)))
-    (cases_lt i n))
 
 -- the row at p, as it is worked out
 pub row_worked : (ps : List Ty) → Built ps → (p : ℕ) → p < length ps → (key : TypeNode) (n v : ℕ) → key ≡ key_of ps (part ps p) → v ≡ variables (take p ps) → n ≡ cond (eqb key.kind 0) v key.left → node key.kind n key.right ≡ get_or (records ps) p zero_node

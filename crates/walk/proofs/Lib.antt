@@ -4,6 +4,7 @@ pub mod Chains
 pub mod Finding
 pub mod Closing
 pub mod Steps
+pub mod Opening
 pub mod Flattening
 pub mod Roots
 pub mod Gathering

@@ -1,6 +1,6 @@
 -- The walk as a whole: what is found when every node was walked.
-use Rattle.std.proofs.Common.{◌≡◌, ℕ, zero, suc, ◌<◌, ◌≤◌, List, [], ◌∷◌, ◌++◌, map, length, get_or, take, replicate, sym, refl, ap, ◌∙◌, subst, ap₂, arith}
-use Rattle.std.proofs.lemmas.List.{length-map, length-append, get_or_append_left, get_or-map, get_or-take, ext_get_or}
+use Rattle.std.proofs.Common.{◌≡◌, ℕ, zero, suc, ◌-◌, ◌<◌, ◌≤◌, List, [], ◌∷◌, ◌++◌, map, length, get_or, take, replicate, sym, refl, ap, ◌∙◌, subst, ap₂, arith}
+use Rattle.std.proofs.lemmas.List.{length-map, length-append, length-replicate, get_or-map, get_or-take, ext_get_or}
 use Rattle.types.specs.declared.TypeNode.{TypeNode}
 use Rattle.types.specs.Types.{Ty, variable, branch, apply}
 use Rattle.types.specs.Lists.{node, zero_node}
@@ -19,7 +19,6 @@ use Rattle.walk.specs.Work.{Work, work, State, Room, zeros}
 use Rattle.walk.specs.Listing.{Shut, Sofar, Rooted, Columns, Narrow, SimpleNode, SimpleGraph, Canonical, Gathered, Listed, OneList}
 use Rattle.walk.proofs.Graphs.{spelt_as, reads_one, general, reads_proper}
 use Rattle.walk.proofs.Chains.{table_none}
-use Rattle.walk.proofs.Gathering.{written}
 
 -- ---- the start
 
@@ -40,6 +39,12 @@ module _ (ns : List Node) (ms os hs xs : List ℕ) (n : ℕ) (clear : (k : ℕ) 
 
   pub room_none : length ms ≡ n → length os ≡ n → length hs ≡ n → length xs ≡ n → n ≤ 65536 → Room n (work ms os hs xs 0)
   room_none a b d e few = record { marks = a; origins = b; heads = d; nexts = e; rest = omega (arith, zeros_le ms); few = few }
+
+-- what is filled with zeros
+pub filled : (n k : ℕ) → ◌≡◌ {A = ℕ} (get_or (replicate n 0) k 0) 0
+filled zero k = refl
+filled (suc n) zero = refl
+filled (suc n) (suc k) = filled n k
 
 pub shut_none : (ms : List ℕ) → ((k : ℕ) → get_or ms k 0 ≡ 0) → Shut ms
 shut_none ms clear k e = omega (arith, clear k)
@@ -121,6 +126,9 @@ module _ (ns : List Node) (w w' : Work) (rs qs : List ℕ) (n : ℕ) (flat : Fla
         within = omega (arith, wanted_below.0, wanted_below.1);
       }
 
+pub gathered_as : (ns : List Node) (rs qs ks ls xs ks' ls' xs' : List ℕ) (n : ℕ) → ks' ≡ ks → ls' ≡ ls → xs' ≡ xs → Gathered ns rs qs ks ls xs n → Gathered ns rs qs ks' ls' xs' n
+gathered_as ns rs qs ks ls xs ks' ls' xs' n a b d g = rw (a, b, d) g
+
 -- the same solutions have the same most general one
 pub canonical_kept : (ns ms : List Node) (rs qs : List ℕ) → Kept ns ms Always Always → length ms ≡ length ns → (SimpleGraph ns → SimpleGraph ms) → Canonical ms rs qs → Canonical ns rs qs
 canonical_kept ns ms rs qs kept long simple c =
@@ -132,37 +140,24 @@ canonical_kept ns ms rs qs kept long simple c =
       places = c.places;
     }
 
--- ---- columns at the beginning of longer memories
+-- ---- the memory
 
-pub narrow_append : (n : ℕ) (ks ls rs us bs ds : List ℕ) → n ≤ length ks → n ≤ length ls → n ≤ length rs → Narrow n ks ls rs → Narrow n (ks ++ us) (ls ++ bs) (rs ++ ds)
-narrow_append n ks ls rs us bs ds hk hl hr w =
-    record {
-      kind = λ p h. (let e = w.kind p h in omega (arith, get_or_append_left ks us 0 p (omega arith)));
-      left = λ p h. (let e = w.left p h in omega (arith, get_or_append_left ls bs 0 p (omega arith)));
-      right = λ p h. (let e = w.right p h in omega (arith, get_or_append_left rs ds 0 p (omega arith)));
-    }
+pub cleared : (l : List TypeNode) (n : ℕ) → l ≡ replicate n zero_node → l ≡ replicate (length l) zero_node
+cleared l n e = e ∙ ap (λ (k : ℕ). replicate k zero_node) (sym (ap length e ∙ length-replicate n zero_node))
 
 -- the rows are written, and what is behind them is cleared
-pub listed : (ns ms : List Node) (rs qs ks ls xs us bs ds : List ℕ) (n : ℕ) (before memory : List TypeNode) → Kept ns ms Always Always → length ms ≡ length ns → (SimpleGraph ns → SimpleGraph ms) → (g : Gathered ms rs qs ks ls xs n) → n ≤ length ks → n ≤ length ls → n ≤ length xs → n ≤ length memory
-    → ((p : ℕ) → p < n → get_or before p zero_node ≡ node (get_or (ks ++ us) p 0) (get_or (ls ++ bs) p 0) (get_or (xs ++ ds) p 0)) → ((p : ℕ) → p < n → get_or memory p zero_node ≡ get_or before p zero_node) → ((p : ℕ) → n ≤ p → get_or memory p zero_node ≡ zero_node)
-    → Listed ns rs qs memory n
+pub listed : (ns ms : List Node) (rs qs ks ls xs : List ℕ) (n m : ℕ) (rows rest : List TypeNode) → Kept ns ms Always Always → length ms ≡ length ns → (SimpleGraph ns → SimpleGraph ms) → Gathered ms rs qs ks ls xs n
+    → length rows ≡ n → ((p : ℕ) → p < n → get_or rows p zero_node ≡ node (get_or ks p 0) (get_or ls p 0) (get_or xs p 0)) → rest ≡ replicate m zero_node → Listed ns rs qs (rows ++ rest) n
 unfolding canonical_kept
-listed ns ms rs qs ks ls xs us bs ds n before memory kept long simple g hk hl hx fits rows same behind =
+listed ns ms rs qs ks ls xs n m rows rest kept long simple g fits written clear =
+    let list = normal (map g.found.types rs) in
+    let e : rows ≡ list = ext_get_or zero_node rows list (fits ∙ g.count) (λ p h. (let l : p < n = omega arith in written p l ∙ g.row p l)) in
+    let k : length rest ≡ length (rows ++ rest) - n = omega (arith, length-append rows rest) in
     record {
       found = canonical_kept ns ms rs qs kept long simple g.found;
       count = g.count;
-      list =
-          written memory (normal (map g.found.types rs)) n (sym g.count) fits
-          (λ p h.
-          same p h ∙ rows p h
-          ∙ ap (λ (k : ℕ). node k (get_or (ls ++ bs) p 0) (get_or (xs ++ ds) p 0)) (get_or_append_left ks us 0 p (omega arith))
-          ∙ ap₂ (node (get_or ks p 0)) (get_or_append_left ls bs 0 p (omega arith)) (get_or_append_left xs ds 0 p (omega arith))
-          ∙ g.row p h)
-          behind;
+      list = ap₂ (λ (x y : List TypeNode). x ++ y) e (cleared rest m clear ∙ ap (λ (j : ℕ). replicate j zero_node) k);
     }
-
-pub cleared : (memory : List TypeNode) → ((p : ℕ) → 0 ≤ p → get_or memory p zero_node ≡ zero_node) → memory ≡ replicate (length memory) zero_node
-cleared memory clear = written memory [] 0 refl (omega arith) (λ p h. absurd (omega arith)) clear ∙ ap (λ (n : ℕ). replicate n zero_node) (omega arith)
 
 -- ---- one list for all most general solutions
 

@@ -3,3 +3,4 @@ pub mod Table
 pub mod Work
 pub mod Listing
 pub mod Copies
+pub mod Lent

@@ -1,5 +1,5 @@
 -- A table that finds places by a number of theirs: chains that go from the latest place of a number down.
-use Rattle.std.specs.Prelude.{◌≡◌, ℕ, ◌+◌, ◌*◌, ◌%◌, ◌<◌, ◌≤◌, List, length, ◌≢◌, slice_index}
+use Rattle.std.specs.Prelude.{◌≡◌, ℕ, ◌+◌, ◌*◌, ◌%◌, ◌<◌, ◌≤◌, List, length, Option, MatchOption, ◌≢◌, slice_index}
 use Rattle.types.specs.declared.TypeNode.{TypeNode}
 
 -- x is 0, or one more than the last place below b that has the number h
@@ -16,3 +16,13 @@ pub record Table (number : ℕ → ℕ) (n : ℕ) (heads nexts : List ℕ) : Typ
 -- the number of a record, below m
 abbrev pub bucket : ℕ → TypeNode → ℕ
 bucket m x = (x.kind + x.left * 31 + x.right * 1021) % m
+
+-- x and what follows it in the chains leads down, to places that a u16 can number
+pub record Falls (nexts : List ℕ) (x : ℕ) : Type 0 where
+  pub few : x ≤ 65536
+  pub within : x ≤ length nexts
+  pub down : (p : ℕ) → p < x → slice_index nexts p ≤ p
+
+-- a step from x gives the place that it leads to, or nothing at 0, and goes on to y
+abbrev pub Goes : List ℕ → ℕ → Option ℕ → List ℕ → ℕ → Type 0
+Goes nexts x r nexts' y = (nexts' ≡ nexts) × MatchOption r (x ≡ 0) (λ p. (x ≡ p + 1) × (y ≡ slice_index nexts p))

@@ -11,6 +11,14 @@ use Rattle.normal.specs.Built.{Ready, Built}
 use Rattle.walk.specs.Reads.{Reads, root}
 use Rattle.walk.specs.Table.{Table, bucket}
 use Rattle.walk.specs.declared.Looped.{Looped}
+use Rattle.walk.specs.declared.walking.Mark.{Mark}
+use Rattle.walk.specs.declared.walking.Mark.TheVariants.{New, Open, Done}
+
+-- a mark, as a number
+abbrev pub number_of : Mark → ℕ
+number_of New = 0
+number_of Open = 1
+number_of (Done p) = p + 2
 
 -- marks, by graph node: 0 not entered, 1 open, p + 2 done at the place p; origins, by place: the graph node that first
 -- made this part; heads and nexts: the table of the parts; and how many places there are

@@ -1,10 +1,11 @@
 // A list of type nodes copied into a graph memory, in which nodes of equal records, as those of one variable, are one class.
-ghost use Rattle.std.specs.Prelude.{◌≡◌, ℕ, ◌+◌, ◌-◌, ◌<◌, ◌≤◌, length, MatchOption, ◌≢◌, slice_index_or};
+ghost use Rattle.std.specs.Prelude.{◌≡◌, ℕ, ◌<◌, ◌≤◌, length, MatchOption, ◌≢◌, slice_index_or};
 ghost use Rattle.types.specs.Lists.{zero_node};
 ghost use Rattle.graph.specs.Graph.{view};
 ghost use Rattle.walk.specs.Table.{bucket, Table};
 ghost use Rattle.walk.specs.Copies.{Copy};
 
+use crate::places;
 use types::TypeNode;
 
 // The latest of the first `count` places of the list that has the record `x`.
@@ -22,16 +23,7 @@ fn find_equal(
     requires table { Table (λ p. bucket (length heads.now) (slice_index_or list.now p zero_node)) count heads.now nexts.now }
     ensures { MatchOption result ((k : ℕ) → k < count → slice_index_or list.now k zero_node ≢ x) (λ q. (q < count) × (slice_index_or list.now q zero_node ≡ x)) }
 {
-    let mut at = heads[crate::bucket_of(x, heads.len())];
-    while at > 0 {
-        let p = at - 1;
-        let y = list[p as usize];
-        if y.kind == x.kind && y.left == x.left && y.right == x.right {
-            return Some(p as u16);
-        }
-        at = nexts[p as usize];
-    }
-    None
+    places::chain_of(heads, nexts, x).find(|place| list[*place as usize] == x)
 }
 
 // What stands at a place of the copy: the record, or a link to an equal one before it.
@@ -62,9 +54,9 @@ pub fn copy(list: &[TypeNode], memory: &mut [TypeNode], heads: &mut [u32], nexts
     requires second { length nexts.old ≡ length list.now }
     ensures { (p : ℕ) → p < length list.now → Copy list.now p (view (slice_index_or memory.new p zero_node)) }
 {
-    crate::clear(heads);
-    for place in 0..list.len() {
+    heads.fill(0);
+    for (place, x) in list.iter().enumerate() {
         memory[place] = copy_at(list, heads, nexts, place);
-        crate::enter(heads, nexts, place as u32, list[place]);
+        places::enter(heads, nexts, place as u32, *x);
     }
 }

@@ -1,18 +1,18 @@
-use Rattle.std.proofs.Common.{sym, arith}
+use Rattle.std.proofs.Common.{arith}
 use Rattle.graph.proofs.Writes.{kept_none}
 use Rattle.walk.proofs.Flattening.{looked_alive, straight_node, next_below, straight_next, skipped_kept, skipped_simple, skipped_straight}
 use Rattle.walk.proofs.straighten.Goals as goal
 
 pub slice_copy_out-there : goal.slice_copy_out-there
-slice_copy_out-there c = let p = c.requires in omega (arith, next_below c.args.memory.now c.args.used c.args.i p.fits p.within p.sound p.below c.in-Link.next (sym c.in-Link.ensures))
+slice_copy_out-there c = let p = c.requires in omega (arith, next_below c.args.graph.now c.args.i p.within p.sound p.below c.in-Link.next c.in-Link.ensures)
 
 pub returns-in-Link-look : goal.returns-in-Link-look
 returns-in-Link-look c =
     let p = c.requires in
     record {
-      kept = skipped_kept c.args.memory.now c.args.used c.args.i p.fits p.within p.sound p.below c.in-Link.next (sym c.in-Link.ensures) c.in-Link-look.far (sym c.in-Link-look.ensures);
-      straight = skipped_straight c.args.memory.now c.args.used c.args.i p.fits p.within p.sound p.below c.in-Link.next (sym c.in-Link.ensures) c.in-Link-look.far (sym c.in-Link-look.ensures);
-      simple = skipped_simple c.args.memory.now c.args.used c.args.i p.fits p.within p.sound p.below c.in-Link.next (sym c.in-Link.ensures) c.in-Link-look.far (sym c.in-Link-look.ensures);
+      kept = skipped_kept c.args.graph.now c.args.i p.within p.sound p.below c.in-Link.next c.in-Link.ensures _ c.in-Link-look.ensures;
+      straight = skipped_straight c.args.graph.now c.args.i p.within p.sound p.below c.in-Link.next c.in-Link.ensures _ c.in-Link-look.ensures;
+      simple = skipped_simple c.args.graph.now c.args.i p.within p.sound p.below c.in-Link.next c.in-Link.ensures _ c.in-Link-look.ensures;
     }
 
 pub returns-in_default-look : goal.returns-in_default-look
@@ -20,7 +20,7 @@ returns-in_default-look c =
     let p = c.requires in
     record {
       kept = kept_none _ p.sound;
-      straight = straight_next c.args.memory.now c.args.used c.args.i p.fits p.within p.sound p.below c.in-Link.next (sym c.in-Link.ensures) (looked_alive _ _ c.look-in-Link.ensures c.in_default-look.not-Link);
+      straight = straight_next c.args.graph.now c.args.i p.within p.sound p.below c.in-Link.next c.in-Link.ensures (looked_alive _ _ c.look-in-Link.ensures c.in_default-look.not-Link);
       simple = λ s. s;
     }
 
@@ -29,6 +29,6 @@ returns-in_default c =
     let p = c.requires in
     record {
       kept = kept_none _ p.sound;
-      straight = straight_node c.args.memory.now c.args.used c.args.i p.fits p.within p.sound p.below (looked_alive _ _ c.look.ensures c.in_default.not-Link);
+      straight = straight_node c.args.graph.now c.args.i p.within p.sound p.below (looked_alive _ _ c.look.ensures c.in_default.not-Link);
       simple = λ s. s;
     }

@@ -1,5 +1,0 @@
-use Rattle.walk.specs.Work.{zeros}
-use Rattle.walk.proofs.+walk.Given as goal
-
-abbrev pub decreases-walk : goal.decreases-walk
-decreases-walk l = zeros l.marks.now
