@@ -95,8 +95,4 @@ module _ (t : Table) where
       subst (Proper k) (sym is) (row_proper k (row_at t.terms t.types (get_or t.entries k no_entry)) (t.rows_pass k lt))
 
   pub filed_few : (k : ℕ) → length (filed_list t k) ≤ 4096
-  filed_few k =
-      ⊎_elim
-      (λ (h : 0 < length (filed_list t k)). (filed_lawful t k h).few)
-      (λ (h : length (filed_list t k) ≤ 0). omega arith)
-      (cases_lt 0 (length (filed_list t k)))
+  filed_few k = grind (arith, filed_lawful t k)
