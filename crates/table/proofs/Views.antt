@@ -50,11 +50,7 @@ module _ (t : Table) where
     entry_fits k h = omega (arith, entry_within span t.entries all order k h, within)
 
     span_fits : span no_entry ≡ no_span → (k : ℕ) → span_end (span (get_or (entries_in_use t) k no_entry)) ≤ 4096
-    span_fits none k =
-        ⊎_elim
-        (λ (h : k < all). subst (λ (e : Entry). span_end (span e) ≤ 4096) (sym (get_or-take all t.entries k no_entry h)) (entry_fits k h))
-        (λ (h : all ≤ k). (let e = ap (λ (x : Entry). span_end (span x)) (get_or_past (entries_in_use t) k no_entry (omega (arith, in_use_long))) ∙ ap span_end none in omega (arith, e)))
-        (cases_lt k all)
+    span_fits none k = grind (arith, common_steps, entry_fits k, in_use_long, ap span_end none)
 
     -- the nodes of all rows end where the last entry ends
     nodes_end : (f : Row → ℕ) → ((k : ℕ) → k < all → f (row_at t.terms t.types (get_or t.entries k no_entry)) ≡ (span (get_or t.entries k no_entry)).length) → total f (kept (view t)) ≡ end_of span t.entries all
