@@ -1,9 +1,9 @@
-use Rattle.std.proofs.Common.{◌≡◌, [], ◌∷◌, length, sym, refl, ap, subst, arith, lit<}
+use Rattle.std.proofs.Common.{[], ◌∷◌, length, sym, refl, subst, lit<}
 use Rattle.term.specs.Terms.{abstraction, variable, prefix}
 use Rattle.types.specs.Lists.{node}
 use Rattle.types.proofs.Tested.{passed_lawful}
 use Rattle.table.specs.Rows.{row, Proper}
-use Rattle.table.specs.View.{View, view, empty, is_held, term_nodes, list_nodes}
+use Rattle.table.specs.View.{View}
 use Rattle.table.proofs.tests.with_identity.Goals as goal
 
 identity_proper : Proper 0 (row (prefix (abstraction (variable 0))) (node 0 0 0 ∷ node 2 0 0 ∷ []))
