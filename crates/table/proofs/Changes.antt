@@ -11,7 +11,7 @@ use Rattle.table.specs.declared.entry.Span.{Span}
 use Rattle.table.specs.declared.table.Table.{Table}
 use Rattle.table.specs.Rows.{Row, row, Proper}
 use Rattle.table.specs.WellFormed.{row_passes}
-use Rattle.table.specs.Entries.{no_entry, part, row_at, in_use, end_of, InOrder, RowsPass, term_span, list_span}
+use Rattle.table.specs.Entries.{no_entry, part, row_at, in_use, span_end, end_of, InOrder, RowsPass, term_span, list_span}
 use Rattle.table.specs.Nodes.{Written}
 use Rattle.table.specs.View.{view, is_held, term_nodes, list_nodes, with_candidate, filed, withdrawn}
 use Rattle.table.specs.Filed.{rows_long}
@@ -46,32 +46,31 @@ fewer_rows t m h =
       rows_pass = λ k lt. t.rows_pass k (omega arith);
     }
 
--- one column of a candidate: its nodes written behind those of the first n rows
-module _ {A : Type 0} (span : Entry → Span) (es : List Entry) (n : ℕ) (e : Entry) (nodes was now : List A) (start : ℕ)
-    (within : n < length es) (order : InOrder span es n) (ends : start ≡ end_of span es n) (room : start + length nodes ≤ length was)
-    (put : Written nodes was now start (span e)) where
-  begins : (span e).start ≡ start
-  begins = ap (λ (s : Span). s.start) put.stands
+-- one column of a candidate: its nodes are written behind those of the first n rows
+record Column {A : Type 0} (span : Entry → Span) (es : List Entry) (n : ℕ) (e : Entry) (nodes was now : List A) (start : ℕ) : Type 0 where
+  within : n < length es
+  order : InOrder span es n
+  ends : start ≡ end_of span es n
+  room : start + length nodes ≤ length was
+  put : Written nodes was now start (span e)
 
-  long : (span e).length ≡ length nodes
-  long = ap (λ (s : Span). s.length) put.stands
-
+module _ {A : Type 0} {span : Entry → Span} {es : List Entry} {n : ℕ} {e : Entry} {nodes was now : List A} {start : ℕ} (c : Column span es n e nodes was now start) where
   now_long : length now ≡ length was
-  now_long = ap length put.written ∙ length-paste was start nodes (length nodes) room (omega arith)
+  now_long = ap length c.put.written ∙ length-paste was start nodes (length nodes) c.room (omega arith)
 
   order_put : InOrder span (set es n e) (suc n)
-  order_put = order_set span es n e within order (begins ∙ ends)
+  order_put = order_set span es n e c.within c.order (ap (λ (s : Span). s.start) c.put.stands ∙ c.ends)
 
   end_put : end_of span (set es n e) (suc n) ≡ start + length nodes
-  end_put = let b = begins in let l = long in end_added span es n e within ∙ omega arith
+  end_put = end_added span es n e c.within ∙ ap span_end c.put.stands
 
   part_stays : (k : ℕ) → k < n → part (span (get_or es k no_entry)).start (span (get_or es k no_entry)).length now ≡ part (span (get_or es k no_entry)).start (span (get_or es k no_entry)).length was
   part_stays k h =
-      ap (part (span (get_or es k no_entry)).start (span (get_or es k no_entry)).length) put.written
-      ∙ part_before (span (get_or es k no_entry)).start (span (get_or es k no_entry)).length start (length nodes) was nodes (omega (arith, entry_within span es n order k h)) (omega arith)
+      let s : Span = span (get_or es k no_entry) in
+      ap (part s.start s.length) c.put.written ∙ part_before s.start s.length start (length nodes) was nodes (omega (arith, entry_within span es n c.order k h, c.ends)) (omega (arith, c.room))
 
   part_put : part (span e).start (span e).length now ≡ nodes
-  part_put = ap (λ (s : Span). part s.start s.length now) put.stands ∙ ap (part start (length nodes)) put.written ∙ part_written start (length nodes) was nodes (omega arith) refl
+  part_put = ap (λ (s : Span). part s.start s.length now) c.put.stands ∙ ap (part start (length nodes)) c.put.written ∙ part_written start (length nodes) was nodes (omega (arith, c.room)) refl
 
 -- a candidate behind all rows
 module _ (t : Table) (term : List TermNode) (list : List TypeNode) (terms : List TermNode) (types : List TypeNode) (e : Entry) (s u : ℕ)
@@ -89,39 +88,34 @@ module _ (t : Table) (term : List TermNode) (list : List TypeNode) (terms : List
   within : t.count < length t.entries
   within = omega (arith, rows_long t, few, t.entries_long)
 
-  terms_in_order : InOrder term_span t.entries t.count
-  terms_in_order = subst (InOrder term_span t.entries) none_open t.terms_order
+  term_column : Column term_span t.entries t.count e term t.terms terms s
+  term_column =
+      record {
+        within = within;
+        order = subst (InOrder term_span t.entries) none_open t.terms_order;
+        ends = at_s ∙ term_nodes_end t ∙ ap (end_of term_span t.entries) none_open;
+        room = omega (arith, at_s, room_s, t.terms_long);
+        put = put_s;
+      }
 
-  lists_in_order : InOrder list_span t.entries t.count
-  lists_in_order = subst (InOrder list_span t.entries) none_open t.lists_order
-
-  s_end : s ≡ end_of term_span t.entries t.count
-  s_end = at_s ∙ term_nodes_end t ∙ ap (end_of term_span t.entries) none_open
-
-  u_end : u ≡ end_of list_span t.entries t.count
-  u_end = at_u ∙ list_nodes_end t ∙ ap (end_of list_span t.entries) none_open
-
-  s_room : s + length term ≤ length t.terms
-  s_room = omega (arith, at_s, room_s, t.terms_long)
-
-  u_room : u + length list ≤ length t.types
-  u_room = omega (arith, at_u, room_u, t.types_long)
+  list_column : Column list_span t.entries t.count e list t.types types u
+  list_column =
+      record {
+        within = within;
+        order = subst (InOrder list_span t.entries) none_open t.lists_order;
+        ends = at_u ∙ list_nodes_end t ∙ ap (end_of list_span t.entries) none_open;
+        room = omega (arith, at_u, room_u, t.types_long);
+        put = put_u;
+      }
 
   -- the rows before it stay
   row_stays : (k : ℕ) → k < t.count → row_at terms types (get_or new_entries k no_entry) ≡ row_at t.terms t.types (get_or t.entries k no_entry)
   row_stays k h =
       let ne : k ≢ t.count = omega arith in
-      ap (row_at terms types) (get_or-set_other t.entries t.count k e no_entry ne)
-      ∙ ap₂ row
-      (part_stays term_span t.entries t.count e term t.terms terms s within terms_in_order s_end s_room put_s k h)
-      (part_stays list_span t.entries t.count e list t.types types u within lists_in_order u_end u_room put_u k h)
+      ap (row_at terms types) (get_or-set_other t.entries t.count k e no_entry ne) ∙ ap₂ row (part_stays term_column k h) (part_stays list_column k h)
 
   row_new : row_at terms types (get_or new_entries t.count no_entry) ≡ row term list
-  row_new =
-      ap (row_at terms types) (get_or-set_same t.entries t.count e no_entry within)
-      ∙ ap₂ row
-      (part_put term_span t.entries t.count e term t.terms terms s within terms_in_order s_end s_room put_s)
-      (part_put list_span t.entries t.count e list t.types types u within lists_in_order u_end u_room put_u)
+  row_new = ap (row_at terms types) (get_or-set_same t.entries t.count e no_entry within) ∙ ap₂ row (part_put term_column) (part_put list_column)
 
   rows_pass : RowsPass new_entries terms types (suc t.count)
   rows_pass k h =
@@ -138,13 +132,13 @@ module _ (t : Table) (term : List TermNode) (list : List TypeNode) (terms : List
   put_invariant =
       record {
         entries_long = length-set t.entries t.count e ∙ t.entries_long;
-        terms_long = now_long term_span t.entries t.count e term t.terms terms s within terms_in_order s_end s_room put_s ∙ t.terms_long;
-        types_long = now_long list_span t.entries t.count e list t.types types u within lists_in_order u_end u_room put_u ∙ t.types_long;
+        terms_long = now_long term_column ∙ t.terms_long;
+        types_long = now_long list_column ∙ t.types_long;
         few = omega (arith, within, t.entries_long);
-        terms_order = order_put term_span t.entries t.count e term t.terms terms s within terms_in_order s_end s_room put_s;
-        lists_order = order_put list_span t.entries t.count e list t.types types u within lists_in_order u_end u_room put_u;
-        terms_within = omega (arith, end_put term_span t.entries t.count e term t.terms terms s within terms_in_order s_end s_room put_s, s_room, t.terms_long);
-        lists_within = omega (arith, end_put list_span t.entries t.count e list t.types types u within lists_in_order u_end u_room put_u, u_room, t.types_long);
+        terms_order = order_put term_column;
+        lists_order = order_put list_column;
+        terms_within = omega (arith, end_put term_column, at_s, room_s);
+        lists_within = omega (arith, end_put list_column, at_u, room_u);
         rows_pass = rows_pass;
       }
 

@@ -1,8 +1,7 @@
 -- The rows of a table by its entries.
-use Rattle.std.proofs.Common.{◌≡◌, ℕ, suc, ◌+◌, ◌-◌, ◌<◌, ◌≤◌, Bool, true, false, List, ◌++◌, map, length, get_or, slice_get, unwrap_or, take, sym, refl, ap, ◌∙◌, subst, ⊎_elim, arith}
+use Rattle.std.proofs.Common.{◌≡◌, ℕ, suc, ◌+◌, ◌-◌, ◌<◌, ◌≤◌, Bool, true, false, List, ◌++◌, map, length, get_or, slice_get, unwrap_or, take, sym, refl, ap, ◌∙◌, subst, arith}
 use Rattle.std.proofs.Math.ListN.{get_or-map}
-use Rattle.std.proofs.lemmas.List.{append-nil, length-map, length-take-le, map_more, get_or-take, get_or_past}
-use Rattle.std.proofs.lemmas.Bool.{cases_lt}
+use Rattle.std.proofs.lemmas.List.{append-nil, length-map, length-take-le, map_more, get_or-take}
 use Rattle.std.proofs.lemmas.Grind.{common_steps}
 use Rattle.std.proofs.lemmas.Option.{unwrap_or-slice_get}
 use Rattle.std.specs.Bool.{then_some}
@@ -50,11 +49,7 @@ module _ (t : Table) where
     entry_fits k h = omega (arith, entry_within span t.entries all order k h, within)
 
     span_fits : span no_entry ≡ no_span → (k : ℕ) → span_end (span (get_or (entries_in_use t) k no_entry)) ≤ 4096
-    span_fits none k =
-        ⊎_elim
-        (λ (h : k < all). subst (λ (e : Entry). span_end (span e) ≤ 4096) (sym (get_or-take all t.entries k no_entry h)) (entry_fits k h))
-        (λ (h : all ≤ k). (let e = ap (λ (x : Entry). span_end (span x)) (get_or_past (entries_in_use t) k no_entry (omega (arith, in_use_long))) ∙ ap span_end none in omega (arith, e)))
-        (cases_lt k all)
+    span_fits none k = grind (arith, common_steps, entry_fits k, in_use_long, ap span_end none)
 
     -- the nodes of all rows end where the last entry ends
     nodes_end : (f : Row → ℕ) → ((k : ℕ) → k < all → f (row_at t.terms t.types (get_or t.entries k no_entry)) ≡ (span (get_or t.entries k no_entry)).length) → total f (kept (view t)) ≡ end_of span t.entries all
@@ -95,8 +90,4 @@ module _ (t : Table) where
       subst (Proper k) (sym is) (row_proper k (row_at t.terms t.types (get_or t.entries k no_entry)) (t.rows_pass k lt))
 
   pub filed_few : (k : ℕ) → length (filed_list t k) ≤ 4096
-  filed_few k =
-      ⊎_elim
-      (λ (h : 0 < length (filed_list t k)). (filed_lawful t k h).few)
-      (λ (h : length (filed_list t k) ≤ 0). omega arith)
-      (cases_lt 0 (length (filed_list t k)))
+  filed_few k = grind (arith, filed_lawful t k)

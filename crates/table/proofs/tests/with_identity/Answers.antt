@@ -1,21 +1,13 @@
-use Rattle.std.proofs.Common.{◌≡◌, [], ◌∷◌, length, sym, refl, ap, subst, arith, lit<}
+use Rattle.std.proofs.Common.{[], ◌∷◌, length, sym, refl, subst, lit<}
 use Rattle.term.specs.Terms.{abstraction, variable, prefix}
 use Rattle.types.specs.Lists.{node}
 use Rattle.types.proofs.Tested.{passed_lawful}
 use Rattle.table.specs.Rows.{row, Proper}
-use Rattle.table.specs.View.{View, view, empty, is_held, term_nodes, list_nodes}
+use Rattle.table.specs.View.{View}
 use Rattle.table.proofs.tests.with_identity.Goals as goal
 
 identity_proper : Proper 0 (row (prefix (abstraction (variable 0))) (node 0 0 0 ∷ node 2 0 0 ∷ []))
 identity_proper = record { formula = record { tree = abstraction (variable 0); code = refl; closed = lit< tt; below = tt }; lawful = passed_lawful (node 0 0 0 ∷ node 2 0 0 ∷ []) tt }
 
-pub put-requires : goal.put-requires
-put-requires c =
-    let e : view c.new-table.result ≡ empty = c.new-table.ensures in
-    record {
-      free = ap (λ (v : View). is_held v.candidate) e;
-      few = omega (arith, ap (λ (v : View). length v.rows) e);
-      terms = omega (arith, ap term_nodes e);
-      lists = omega (arith, ap list_nodes e);
-      proper = subst (λ (v : View). Proper (length v.rows) (row (prefix (abstraction (variable 0))) (node 0 0 0 ∷ node 2 0 0 ∷ []))) (sym e) identity_proper;
-    }
+pub put-requires-clause-proper : goal.put-requires-clause-proper
+put-requires-clause-proper c = subst (λ (v : View). Proper (length v.rows) (row (prefix (abstraction (variable 0))) (node 0 0 0 ∷ node 2 0 0 ∷ []))) (sym c.new-table.ensures) identity_proper
