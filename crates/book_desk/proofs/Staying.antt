@@ -1,5 +1,5 @@
 -- A book with an open candidate refuses a submit and a withdrawal, and is left as it was.
-use Rattle.std.proofs.Common.{◌≡◌, ℕ, true, List, Some, None, Option, sym, refl, ap, ◌∙◌, subst, arith}
+use Rattle.std.proofs.Common.{◌≡◌, ℕ, true, List, Some, None, Option, Ok, Err, Result, IsErr, sym, refl, ap, ◌∙◌, subst, arith}
 use Rattle.refusal.specs.Saying.{saying}
 use Rattle.refusal.specs.declared.Layer.TheVariants as layer
 use Rattle.refusal.specs.declared.Refusal.{Refusal}
@@ -12,6 +12,9 @@ use Rattle.ledger.specs.Submitting.{busy}
 use Rattle.ledger.specs.Steps.{Step, unsubmitted, candidate_open}
 use Rattle.ledger.proofs.Deterministic.{step_is_one}
 use Rattle.book.specs.declared.book.Book.{Book}
+use Rattle.book.specs.declared.fault.BookFault.{BookFault}
+use Rattle.book.specs.declared.ticket.Ticket.{Ticket}
+use Rattle.book.specs.Replies.{reply_submit, reply_withdraw}
 use Rattle.book.specs.Standing.{Stands, shown_if}
 use Rattle.book.specs.Standing as standing
 use Rattle.book.specs.History.{Link, EveryRun, start, next}
@@ -68,11 +71,20 @@ module _ {C : Type 0} (entries : C → List Entry) where
     pub submit_refused : {b' : Book C} {s : Submission} {r : Refusal} → Link entries b (submit s) (refused r) b' → (r ≡ saying 10 layer.Book 0) × Open entries b'
     submit_refused link = let p = stays (unsubmitted (busy held_row.is)) link in (sym (ap refusal_in p.0), p.1)
 
-    pub not_submitted : {b' : Book C} {s : Submission} {n : ℕ} → Link entries b (submit s) (opened n) b' → ⊥
+    not_submitted : {b' : Book C} {s : Submission} {n : ℕ} → Link entries b (submit s) (opened n) b' → ⊥
     not_submitted link = let e = ap (λ r. (refusal_in r).number) (stays (unsubmitted (busy held_row.is)) link).0 in omega (arith, e)
 
     pub withdrawal_refused : {b' : Book C} {r : Refusal} → Link entries b withdraw (refused r) b' → (r ≡ saying 62 layer.Book 0) × Open entries b'
     withdrawal_refused link = let p = stays (candidate_open held_row.is) link in (sym (ap refusal_in p.0), p.1)
 
-    pub not_withdrawn : {b' : Book C} {n : ℕ} → Link entries b withdraw (withdrawn n) b' → ⊥
+    not_withdrawn : {b' : Book C} {n : ℕ} → Link entries b withdraw (withdrawn n) b' → ⊥
     not_withdrawn link = let e = ap (λ r. (refusal_in r).number) (stays (candidate_open held_row.is) link).0 in omega (arith, e)
+
+    -- and so the answers are errors
+    pub submit_errs : {b' : Book C} {s : Submission} (r : Result Ticket BookFault) → Link entries b (submit s) (reply_submit r) b' → IsErr r
+    submit_errs (Ok t) link = absurd (not_submitted link)
+    submit_errs (Err f) link = refl
+
+    pub withdrawal_errs : {b' : Book C} (r : Result ℕ BookFault) → Link entries b withdraw (reply_withdraw r) b' → IsErr r
+    withdrawal_errs (Ok n) link = absurd (not_withdrawn link)
+    withdrawal_errs (Err f) link = refl

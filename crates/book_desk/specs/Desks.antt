@@ -4,6 +4,8 @@ use Rattle.types.specs.declared.TypeNode.{TypeNode}
 use Rattle.types.specs.Lists.{zero_node as no_type_node}
 use Rattle.term.specs.declared.TermNode.{TermNode}
 use Rattle.term.specs.Terms.{zero_node as no_term_node}
+use Rattle.ledger.specs.Calls.{Submission}
+use Rattle.book.specs.Memories.{submission}
 use Rattle.book_desk.specs.declared.desk.Desk.{Desk}
 use Rattle.book_desk.specs.declared.desk.Left.{Left}
 use Rattle.book_desk.specs.declared.desk.Left.TheVariants.{Kept, Zeros, Mixed}
@@ -42,8 +44,12 @@ pub record Scribbled (terms types numbers : ℕ) (d : Desk) : Type 0 where
   pub types_are : vec_items d.types ≡ replicate types (type_of 9)
   pub numbers_are : vec_items d.numbers ≡ replicate numbers 9
 
--- a word for it
+-- a word for what is left
 abbrev pub word : Left → List ℕ
 word Kept = codes "kept"
 word Zeros = codes "zeros"
 word Mixed = codes "mixed"
+
+-- what is submitted in the memories of a desk
+abbrev pub submission_on : Desk → List ℕ → Submission
+submission_on d text = submission text (vec_items d.terms) (vec_items d.types) (vec_items d.numbers)

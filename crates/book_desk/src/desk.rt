@@ -1,4 +1,8 @@
 // The memories that trials work in.
+ghost use Rattle.std.specs.Prelude.{Some};
+ghost use Rattle.book_desk.specs.Desks.{word};
+
+use std::fmt;
 use term::TermNode;
 use types::TypeNode;
 
@@ -30,4 +34,17 @@ pub enum Left {
     Kept,
     Zeros,
     Mixed,
+}
+
+// A word for what was left.
+impl fmt::Display for Left {
+    ghost output = { λ l. Some (word l) };
+
+    fn fmt<W: fmt::Write>(&self, f: &mut fmt::Formatter<W>) -> fmt::Result {
+        match self {
+            Left::Kept => f.write_str("kept"),
+            Left::Zeros => f.write_str("zeros"),
+            Left::Mixed => f.write_str("mixed"),
+        }
+    }
 }

@@ -1,48 +1,55 @@
-// Formulas that are submitted, and at once filed or dismissed.
-ghost use Rattle.ledger.specs.Calls.{file as to_file, dismiss as to_dismiss, filed as is_filed, dismissed as is_dismissed};
-ghost use Rattle.book.specs.Memories.{submission};
+// Formulas that are submitted in the memories of a desk, and at once filed or dismissed.
+ghost use Rattle.std.specs.Prelude.{◌≡◌};
+ghost use Rattle.ledger.specs.Calls.{submit as to_submit, file as to_file, dismiss as to_dismiss, filed as is_filed, dismissed as is_dismissed};
+ghost use Rattle.book.specs.History.{Does};
+ghost use Rattle.book.specs.Replies.{reply_submit, Unspent, Opens, RefusalKeeps, has_candidate};
+ghost use Rattle.book_desk.specs.Desks.{submission_on};
 ghost use Rattle.book_desk.specs.Filing.{Ends};
 
+use crate::desk::Desk;
 use book::book::Book;
 use book::fault::BookFault;
+use book::ticket::Ticket;
 use catalogue::interface::Catalogue;
-use term::TermNode;
-use types::TypeNode;
 
-// Submits a formula and files it, and answers its number.
-pub fn submit_and_file<C: Catalogue>(
-    book: &mut Book<C>,
-    text: &[u8],
-    terms: &mut [TermNode],
-    types: &mut [TypeNode],
-    numbers: &mut [u32],
-) -> Result<u16, BookFault>
-    ensures { Ends C.entries book.old (submission text.now terms.old types.old numbers.old) to_file (λ n. is_filed n) book.new result }
-{
-    match book.submit(text, terms, types, numbers) {
-        Ok(ticket) => match book.file(ticket) {
-            Ok(number) => Ok(number),
-            Err(_) => unreachable(),
-        },
-        Err(fault) => Err(fault),
+impl Desk {
+    // Submits a formula.
+    pub fn submit<C: Catalogue>(
+        &mut self,
+        book: &mut Book<C>,
+        text: &[u8],
+    ) -> Result<Ticket, BookFault>
+        ensures done { Does C.entries book.old (to_submit (submission_on self.old text.now)) (reply_submit result) book.new }
+        ensures ticket { Unspent result }
+        ensures kept { RefusalKeeps result book.old book.new }
+        ensures candidate { Opens (has_candidate book.new) result }
+    {
+        book.submit(text, &mut self.terms, &mut self.types, &mut self.numbers)
     }
-}
 
-// Submits a formula and dismisses it.
-pub fn submit_and_dismiss<C: Catalogue>(
-    book: &mut Book<C>,
-    text: &[u8],
-    terms: &mut [TermNode],
-    types: &mut [TypeNode],
-    numbers: &mut [u32],
-) -> Result<(), BookFault>
-    ensures { Ends C.entries book.old (submission text.now terms.old types.old numbers.old) to_dismiss (λ _. is_dismissed) book.new result }
-{
-    match book.submit(text, terms, types, numbers) {
-        Ok(ticket) => match book.dismiss(ticket) {
-            Ok(()) => Ok(()),
-            Err(_) => unreachable(),
-        },
-        Err(fault) => Err(fault),
+    // Submits a formula and files it, and answers its number.
+    pub fn submit_and_file<C: Catalogue>(
+        &mut self,
+        book: &mut Book<C>,
+        text: &[u8],
+    ) -> Result<u16, BookFault>
+        ensures { Ends C.entries book.old (submission_on self.old text.now) to_file (λ n. is_filed n) book.new result }
+    {
+        let ticket = self.submit(book, text)?;
+        let number = book.file(ticket).unwrap();
+        Ok(number)
+    }
+
+    // Submits a formula and dismisses it.
+    pub fn submit_and_dismiss<C: Catalogue>(
+        &mut self,
+        book: &mut Book<C>,
+        text: &[u8],
+    ) -> Result<(), BookFault>
+        ensures { Ends C.entries book.old (submission_on self.old text.now) to_dismiss (λ _. is_dismissed) book.new result }
+    {
+        let ticket = self.submit(book, text)?;
+        book.dismiss(ticket).unwrap();
+        Ok(())
     }
 }

@@ -5,28 +5,18 @@ ghost use Rattle.refusal.specs.declared.Layer.TheVariants.{Book as of_the_book};
 ghost use Rattle.book.specs.Faults.{says};
 ghost use Rattle.book_desk.specs.Represented.{Open};
 
+use crate::desk::Desk;
 use book::book::Book;
 use book::fault::BookFault;
 use catalogue::interface::Catalogue;
-use term::TermNode;
-use types::TypeNode;
 
 // Submits a formula while a candidate is open, and answers the refusal.
-pub fn refused_submit<C: Catalogue>(
-    book: &mut Book<C>,
-    text: &[u8],
-    terms: &mut [TermNode],
-    types: &mut [TypeNode],
-    numbers: &mut [u32],
-) -> BookFault
+pub fn refused_submit<C: Catalogue>(book: &mut Book<C>, text: &[u8], desk: &mut Desk) -> BookFault
     requires { Open C.entries book.old }
     ensures refusal { says result ≡ saying 10 of_the_book 0 }
     ensures still { Open C.entries book.new }
 {
-    match book.submit(text, terms, types, numbers) {
-        Ok(_) => unreachable(),
-        Err(fault) => fault,
-    }
+    desk.submit(book, text).unwrap_err()
 }
 
 // Withdraws while a candidate is open, and answers the refusal.
@@ -35,8 +25,5 @@ pub fn refused_withdrawal<C: Catalogue>(book: &mut Book<C>) -> BookFault
     ensures refusal { says result ≡ saying 62 of_the_book 0 }
     ensures still { Open C.entries book.new }
 {
-    match book.withdraw() {
-        Ok(_) => unreachable(),
-        Err(refusal) => refusal,
-    }
+    book.withdraw().unwrap_err()
 }

@@ -1,6 +1,6 @@
 // The calls on a desk: it is scribbled on, and what a submit left there is found out.
-ghost use Rattle.std.specs.Prelude.{◌≡◌, length, IfOk, Decides};
-ghost use Rattle.book_desk.specs.Desks.{TermsAre, TypesAre, NumbersAre, Holds, Finds, Scribbled, word as word_of};
+ghost use Rattle.std.specs.Prelude.{length, IfOk, Decides};
+ghost use Rattle.book_desk.specs.Desks.{TermsAre, TypesAre, NumbersAre, Holds, Finds, Scribbled};
 
 use crate::desk::{Desk, Left, Room};
 use std::alloc::{AllocError, Global};
@@ -65,48 +65,29 @@ impl Desk {
     }
 }
 
-impl Left {
-    // A word for what was left.
-    pub fn word(&self) -> &'static str
-        ensures { result.now ≡ word_of self.now }
-    {
-        match *self {
-            Left::Kept => "kept",
-            Left::Zeros => "zeros",
-            Left::Mixed => "mixed",
-        }
-    }
-}
-
 fn terms_are(terms: &[TermNode], value: u8) -> bool
     ensures { Decides result (TermsAre terms.now value) }
 {
-    for (place, node) in terms.iter().enumerate() {
-        if node.kind != value || node.number != value as u16 {
-            return false;
-        }
-    }
-    true
+    let node = TermNode {
+        kind: value,
+        number: value as u16,
+    };
+    terms.iter().all(|term| *term == node)
 }
 
 fn types_are(types: &[TypeNode], value: u8) -> bool
     ensures { Decides result (TypesAre types.now value) }
 {
-    for (place, node) in types.iter().enumerate() {
-        if node.kind != value || node.left != value as u16 || node.right != value as u16 {
-            return false;
-        }
-    }
-    true
+    let node = TypeNode {
+        kind: value,
+        left: value as u16,
+        right: value as u16,
+    };
+    types.iter().all(|record| *record == node)
 }
 
 fn numbers_are(numbers: &[u32], value: u8) -> bool
     ensures { Decides result (NumbersAre numbers.now value) }
 {
-    for (place, number) in numbers.iter().enumerate() {
-        if *number != value as u32 {
-            return false;
-        }
-    }
-    true
+    numbers.iter().all(|number| *number == value as u32)
 }

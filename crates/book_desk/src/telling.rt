@@ -1,16 +1,26 @@
 // What a trial prints: its name, what is left in the memories, and the line of its outcome.
 use crate::desk::Desk;
-use crate::filing::submit_and_file;
 use book::book::Book;
 use book::fault::BookFault;
 use book::outcome::Outcome;
 use catalogue::interface::Catalogue;
 use refusal::Refusal;
+use std::fmt;
 use std::io;
 use std::io::Write;
 
 // Room for a line.
 const LINE: usize = 4104;
+
+// A formula's number, as it is written in formulas.
+#[derive(Clone, Copy)]
+struct Number(u16);
+
+impl fmt::Display for Number {
+    fn fmt<W: fmt::Write>(&self, f: &mut fmt::Formatter<W>) -> fmt::Result {
+        write!(f, "#{}", self.0)
+    }
+}
 
 // Prints the line of an outcome.
 pub fn tell<C: Catalogue>(rt: &HostRuntime, book: &Book<C>, outcome: Outcome) -> io::Result<()> {
@@ -26,8 +36,20 @@ pub fn tell<C: Catalogue>(rt: &HostRuntime, book: &Book<C>, outcome: Outcome) ->
 
 // Prints a refusal.
 pub fn tell_fault(rt: &HostRuntime, fault: BookFault) -> io::Result<()> {
-    let refusal = Refusal::from(fault);
-    println!(rt; "{refusal}")
+    println!(rt; "{}", Refusal::from(fault))
+}
+
+// Prints what an answer says, or the refusal.
+fn tell_answer<T: fmt::Display + Drop>(
+    rt: &HostRuntime,
+    name: &str,
+    answer: Result<T, BookFault>,
+) -> io::Result<()> {
+    print!(rt; "{name}: ")?;
+    match answer {
+        Ok(said) => println!(rt; "{said}"),
+        Err(fault) => tell_fault(rt, fault),
+    }
 }
 
 // Prints how long an answer is, or the refusal.
@@ -36,20 +58,17 @@ pub fn tell_length(
     name: &str,
     answer: Result<usize, BookFault>,
 ) -> io::Result<()> {
-    print!(rt; "{name}: ")?;
-    match answer {
-        Ok(length) => println!(rt; "{length}"),
-        Err(fault) => tell_fault(rt, fault),
-    }
+    tell_answer(rt, name, answer)
 }
 
 // Prints a formula's number, or the refusal.
 pub fn tell_number(rt: &HostRuntime, name: &str, answer: Result<u16, BookFault>) -> io::Result<()> {
-    print!(rt; "{name}: ")?;
-    match answer {
-        Ok(number) => println!(rt; "#{number}"),
-        Err(fault) => tell_fault(rt, fault),
-    }
+    tell_answer(rt, name, answer.map(Number))
+}
+
+// Prints that something was done, or the refusal.
+pub fn tell_passed(rt: &HostRuntime, name: &str, answer: Result<(), BookFault>) -> io::Result<()> {
+    tell_answer(rt, name, answer.map(|()| "passed"))
 }
 
 // Submits a formula, files it if it is taken up, and prints what came of it.
@@ -61,26 +80,8 @@ pub fn attempt<C: Catalogue>(
     desk: &mut Desk,
 ) -> io::Result<()> {
     desk.scribble();
-    let outcome = match submit_and_file(
-        book,
-        text,
-        &mut desk.terms,
-        &mut desk.types,
-        &mut desk.numbers,
-    ) {
-        Ok(number) => Outcome::Filed(number),
-        Err(fault) => Outcome::Refused(fault),
-    };
-    let left = desk.left().word();
+    let outcome = desk.submit_and_file(book, text);
+    let left = desk.left();
     print!(rt; "{name} ({left}): ")?;
     tell(rt, book, outcome)
-}
-
-// Prints that something was done, or the refusal.
-pub fn tell_passed(rt: &HostRuntime, name: &str, answer: Result<(), BookFault>) -> io::Result<()> {
-    print!(rt; "{name}: ")?;
-    match answer {
-        Ok(()) => println!(rt; "passed"),
-        Err(fault) => tell_fault(rt, fault),
-    }
 }

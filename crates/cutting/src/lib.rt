@@ -1,10 +1,24 @@
-// The lines of an input: each ends at byte 10; a last one without it counts unless it is empty.
+// The lines of an input: each ends at byte 10; a last one without it counts unless it is empty. And the input itself,
+// read from the standard input.
 #![tactic(auto)]
 
 ghost use Rattle.std.specs.Prelude.{◌≡◌, ◌-◌, ◌≤◌, ◌==◌, length, MatchOption};
 ghost use Rattle.std.specs.Iterator.{at_most};
 ghost use Rattle.std.specs.List.{position};
 ghost use Rattle.cutting.specs.Lines.{EndsAt, Cut, Begins, Gives};
+
+use std::io;
+use std::io::Read;
+
+// The most bytes of input that are read.
+const MOST_BYTES: u64 = 65536;
+
+// The standard input, as much of it as is read.
+pub fn read_input(rt: &HostRuntime) -> io::Result<Vec<u8>> {
+    let mut input = Vec::new(rt.alloc());
+    let _ = rt.stdin().take(MOST_BYTES).read_to_end(&mut input)?;
+    Ok(input)
+}
 
 // A line's text, where it begins and ends, and where the next one begins.
 #[derive(Clone, Copy)]

@@ -5,13 +5,11 @@ use book::carrying::keep_book;
 use book::dealing::Answer;
 use book::fault::BookFault;
 use catalogue::interface::Catalogue;
+pub use cutting::read_input;
 use std::io;
-use std::io::{Read, Write};
+use std::io::Write;
 use term::TermNode;
 use types::TypeNode;
-
-// The most bytes of input that are read.
-const MOST_BYTES: u64 = 65536;
 
 // Room for the largest formula, and for the longest line.
 const TERMS: usize = 1024;
@@ -21,13 +19,6 @@ const TYPES: usize = 4096;
 const NUMBERS: usize = 40960;
 
 const BYTES: usize = 4104;
-
-// The standard input, as much of it as is read.
-pub fn read_input(rt: &HostRuntime) -> io::Result<Vec<u8>> {
-    let mut input = Vec::new(rt.alloc());
-    let _ = rt.stdin().take(MOST_BYTES).read_to_end(&mut input)?;
-    Ok(input)
-}
 
 // Prints a line for each two answers: to a submit, and to the filing after it.
 fn print_outcomes<C: Catalogue>(

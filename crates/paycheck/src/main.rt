@@ -5,17 +5,14 @@
 mod fault;
 mod reply;
 
-use cutting::lines;
+use cutting::{lines, read_input};
 use fault::LineFault;
 use refusal::Refusal;
 use reply::reply as type_of;
 use std::io;
-use std::io::{Read, Write};
+use std::io::Write;
 use term::TermNode;
 use types::TypeNode;
-
-// The most bytes of input that are read.
-const MOST_BYTES: u64 = 65536;
 
 // Room for the numbers that the largest formula needs.
 const NUMBERS: usize = 40960;
@@ -34,8 +31,7 @@ fn say(rt: &HostRuntime, reply: Result<usize, LineFault>, out: &[u8]) -> io::Res
 }
 
 fn main(rt: HostRuntime) -> io::Result<()> {
-    let mut input = Vec::new(rt.alloc());
-    let _ = rt.stdin().take(MOST_BYTES).read_to_end(&mut input)?;
+    let input = read_input(&rt)?;
     let mut terms = vec![in rt.alloc(); TermNode::default(); 1024]?;
     let mut types = vec![in rt.alloc(); TypeNode::default(); 4096]?;
     let mut numbers = vec![in rt.alloc(); 0u32; NUMBERS]?;
