@@ -78,16 +78,16 @@ fn call(graph: &mut Graph, function: u16, argument: u16) -> Option<u16>
 }
 
 // A term by its nodes, and the lists that its primitives and its references stand for.
-#[derive(Drop)]
-struct Term<'a, E, K> {
-    entries: &'a E,
-    kept: &'a K,
-    terms: &'a [TermNode],
+#[derive_where(Clone, Copy)]
+pub struct Term<'a, E: Source, K: Source> {
+    pub entries: &'a E,
+    pub kept: &'a K,
+    pub nodes: &'a [TermNode],
 }
 
 impl<E: Source, K: Source> Term<'_, E, K> {
     // How many graph records a term node needs.
-    fn need_of(&self, node: TermNode) -> u16
+    pub fn need_of(&self, node: TermNode) -> u16
         ensures { result ≡ head_need (E.Source.list self.now.entries.now) (K.Source.list self.now.kept.now) (head_of node) }
     {
         match node.symbol() {
@@ -112,16 +112,16 @@ impl<E: Source, K: Source> Term<'_, E, K> {
     ) -> Option<Found>
         requires deep { scope.old.depth ≤ length scope.old.binders.now }
         requires sound { Sound (nodes graph.old) }
-        requires room { graph.old.used + need (E.Source.list self.now.entries.now) (K.Source.list self.now.kept.now) (drop at self.now.terms.now) ≤ length graph.old.memory.now }
-        requires small { graph.old.used + need (E.Source.list self.now.entries.now) (K.Source.list self.now.kept.now) (drop at self.now.terms.now) ≤ 65536 }
-        requires inner { scope.old.depth + (length self.now.terms.now - at) ≤ length scope.old.binders.now }
-        requires placed { length self.now.terms.now ≤ length places.old }
+        requires room { graph.old.used + need (E.Source.list self.now.entries.now) (K.Source.list self.now.kept.now) (drop at self.now.nodes.now) ≤ length graph.old.memory.now }
+        requires small { graph.old.used + need (E.Source.list self.now.entries.now) (K.Source.list self.now.kept.now) (drop at self.now.nodes.now) ≤ 65536 }
+        requires inner { scope.old.depth + (length self.now.nodes.now - at) ≤ length scope.old.binders.now }
+        requires placed { length self.now.nodes.now ≤ length places.old }
         requires scoped { Scoped (held scope.old) graph.old.used }
         ensures graph { InPlace graph.old graph.new }
         ensures scope { AsBefore scope.old scope.new }
-        ensures passed { Passed (E.Source.list self.now.entries.now) (K.Source.list self.now.kept.now) self.now.terms.now at scope.old scope.new places.old places.new graph.old graph.new result }
+        ensures passed { Passed (E.Source.list self.now.entries.now) (K.Source.list self.now.kept.now) self.now.nodes.now at scope.old scope.new places.old places.new graph.old graph.new result }
     {
-        let symbol = self.terms.get(at)?.symbol()?;
+        let symbol = self.nodes.get(at)?.symbol()?;
         let next = at + 1;
         let found = match symbol {
             Symbol::Variable(n) => Found {
@@ -158,45 +158,34 @@ impl<E: Source, K: Source> Term<'_, E, K> {
         places[at] = found.node as u32;
         Some(found)
     }
-}
 
-// How many graph records the term of these nodes needs.
-pub fn needed<E: Source, K: Source>(entries: &E, kept: &K, terms: &[TermNode]) -> usize
-    requires few { length terms.now ≤ 65536 }
-    ensures { result ≡ need (E.Source.list entries.now) (K.Source.list kept.now) terms.now }
-{
-    let term = Term {
-        entries,
-        kept,
-        terms,
-    };
-    terms.iter().map(|node| term.need_of(*node) as usize).sum()
-}
+    // How many graph records the term needs.
+    pub fn needed(&self) -> usize
+        requires few { length self.now.nodes.now ≤ 65536 }
+        ensures { result ≡ need (E.Source.list self.now.entries.now) (K.Source.list self.now.kept.now) self.now.nodes.now }
+    {
+        self.nodes.iter().map(|node| self.need_of(*node) as usize).sum()
+    }
 
-// Builds the graph of a closed term from the start of the memory, and records the graph node of each term node in
-// `places`. It answers how many records are used, or none where the term has no type. `binders` and `seen` are scratch.
-pub fn infer<E: Source, K: Source>(
-    entries: &E,
-    kept: &K,
-    terms: &[TermNode],
-    binders: &mut [u32],
-    places: &mut [u32],
-    seen: &mut [u32],
-    memory: &mut [TypeNode],
-) -> Option<usize>
-    requires room { need (E.Source.list entries.now) (K.Source.list kept.now) terms.now ≤ length memory.old }
-    requires small { need (E.Source.list entries.now) (K.Source.list kept.now) terms.now ≤ 65536 }
-    requires inner { length terms.now ≤ length binders.old }
-    requires placed { length terms.now ≤ length places.old }
-    ensures { Answered (E.Source.list entries.now) (K.Source.list kept.now) terms.now places.new memory.new result }
-{
-    let term = Term {
-        entries,
-        kept,
-        terms,
-    };
-    let mut scope = Scope { binders, depth: 0 };
-    let mut graph = Graph { memory, used: 0 };
-    let found = term.pass(0, &mut scope, places, seen, &mut graph)?;
-    (found.next == terms.len()).then_some(graph.used)
+    // Builds the graph of the term, if it is closed, from the start of the memory, and records the graph node of each of
+    // its nodes in `places`. It answers how many records are used, or none where the term has no type. `binders` and
+    // `seen` are scratch.
+    pub fn infer(
+        &self,
+        binders: &mut [u32],
+        places: &mut [u32],
+        seen: &mut [u32],
+        memory: &mut [TypeNode],
+    ) -> Option<usize>
+        requires room { need (E.Source.list self.now.entries.now) (K.Source.list self.now.kept.now) self.now.nodes.now ≤ length memory.old }
+        requires small { need (E.Source.list self.now.entries.now) (K.Source.list self.now.kept.now) self.now.nodes.now ≤ 65536 }
+        requires inner { length self.now.nodes.now ≤ length binders.old }
+        requires placed { length self.now.nodes.now ≤ length places.old }
+        ensures { Answered (E.Source.list self.now.entries.now) (K.Source.list self.now.kept.now) self.now.nodes.now places.new memory.new result }
+    {
+        let mut scope = Scope { binders, depth: 0 };
+        let mut graph = Graph { memory, used: 0 };
+        let found = self.pass(0, &mut scope, places, seen, &mut graph)?;
+        (found.next == self.nodes.len()).then_some(graph.used)
+    }
 }

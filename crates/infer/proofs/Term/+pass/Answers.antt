@@ -17,19 +17,19 @@ returns-in_err-binder-in-Variable-clause-passed g t c =
     let E : Lists = g.E.Source.list c.args.self.now.entries.now in
     let K : Lists = g.K.Source.list c.args.self.now.kept.now in
     let p = c.requires in
-    let st : Starts c.args.self.now.terms.now c.args.at (Some (Variable c.in-Variable.n)) = starts_some _ _ _ _ _ c.in_ok-get.ensures.lookup.3 c.in_ok-symbol.ensures c.in-Variable.is in
-    rw c.from_residual-in_err-binder-in-Variable.ensures (clash_variable E K c.args.self.now.terms.now c.args.at c.args.scope.now c.args.places.now c.args.graph.now p.sound p.room p.scoped _ st c.in_err-binder-in-Variable.ensures)
+    let st : Starts c.args.self.now.nodes.now c.args.at (Some (Variable c.in-Variable.n)) = starts_some _ _ _ _ _ c.in_ok-get.ensures.lookup.3 c.in_ok-symbol.ensures c.in-Variable.is in
+    rw c.from_residual-in_err-binder-in-Variable.ensures (clash_variable E K c.args.self.now.nodes.now c.args.at c.args.scope.now c.args.places.now c.args.graph.now p.sound p.room p.scoped _ st c.in_err-binder-in-Variable.ensures)
 
 pub pass-requires : goal.pass-requires
 pass-requires g t c κs within =
     let E : Lists = g.E.Source.list c.args.self.now.entries.now in
     let K : Lists = g.K.Source.list c.args.self.now.kept.now in
     let p = c.requires in
-    let st : Starts c.args.self.now.terms.now c.args.at (Some Abstraction) = starts_some _ _ _ _ _ c.in_ok-get.ensures.lookup.3 c.in_ok-symbol.ensures c.in-Abstraction.is in
+    let st : Starts c.args.self.now.nodes.now c.args.at (Some Abstraction) = starts_some _ _ _ _ _ c.in_ok-get.ensures.lookup.3 c.in_ok-symbol.ensures c.in-Abstraction.is in
     let b = c.push-binder.ensures in
     let e = c.enter.ensures in
     let e1 = rw c.variable.ensures at b.nodes in
-    let room = body_room E K c.args.self.now.terms.now c.args.at c.args.scope.now c.args.places.now c.args.graph.now p.sound p.room p.scoped st c.push-binder.new.self e1 b.used b.kept.1 c.enter.new.self c.push-binder.result b.place e.held in (
+    let room = body_room E K c.args.self.now.nodes.now c.args.at c.args.scope.now c.args.places.now c.args.graph.now p.sound p.room p.scoped st c.push-binder.new.self e1 b.used b.kept.1 c.enter.new.self c.push-binder.result b.place e.held in (
       omega (arith, c.decreases, st.0),
       (
         within.0,
@@ -38,7 +38,7 @@ pass-requires g t c κs within =
           (
             omega (arith, p.inner, st.0, e.depth, e.kept.1),
             (
-              body_sound E K c.args.self.now.terms.now c.args.at c.args.scope.now c.args.places.now c.args.graph.now p.sound p.room p.scoped st c.push-binder.new.self e1 b.used b.kept.1 c.enter.new.self c.push-binder.result b.place e.held,
+              body_sound E K c.args.self.now.nodes.now c.args.at c.args.scope.now c.args.places.now c.args.graph.now p.sound p.room p.scoped st c.push-binder.new.self e1 b.used b.kept.1 c.enter.new.self c.push-binder.result b.place e.held,
               (
                 omega (arith, room, p.room, b.kept.1),
                 (
@@ -47,7 +47,7 @@ pass-requires g t c κs within =
                     omega (arith, p.inner, st.0, e.depth, e.kept.1),
                     (
                       p.placed,
-                      body_scoped E K c.args.self.now.terms.now c.args.at c.args.scope.now c.args.places.now c.args.graph.now p.sound p.room p.scoped st c.push-binder.new.self e1 b.used b.kept.1 c.enter.new.self c.push-binder.result b.place e.held,
+                      body_scoped E K c.args.self.now.nodes.now c.args.at c.args.scope.now c.args.places.now c.args.graph.now p.sound p.room p.scoped st c.push-binder.new.self e1 b.used b.kept.1 c.enter.new.self c.push-binder.result b.place e.held,
                     ),
                   ),
                 ),
@@ -63,49 +63,49 @@ returns-in_err-body-in-Abstraction-clause-passed g t c =
     let E : Lists = g.E.Source.list c.args.self.now.entries.now in
     let K : Lists = g.K.Source.list c.args.self.now.kept.now in
     let p = c.requires in
-    let st : Starts c.args.self.now.terms.now c.args.at (Some Abstraction) = starts_some _ _ _ _ _ c.in_ok-get.ensures.lookup.3 c.in_ok-symbol.ensures c.in-Abstraction.is in
+    let st : Starts c.args.self.now.nodes.now c.args.at (Some Abstraction) = starts_some _ _ _ _ _ c.in_ok-get.ensures.lookup.3 c.in_ok-symbol.ensures c.in-Abstraction.is in
     let b = c.push-binder.ensures in
-    rw c.from_residual-in_err-body-in-Abstraction.ensures (clash_body E K c.args.self.now.terms.now c.args.at c.args.scope.now c.args.places.now c.args.graph.now p.sound p.room p.scoped st c.push-binder.new.self (rw c.variable.ensures at b.nodes) b.used b.kept.1 c.enter.new.self c.push-binder.result b.place c.enter.ensures.held c.in_err-body-in-Abstraction.ensures.passed)
+    rw c.from_residual-in_err-body-in-Abstraction.ensures (clash_body E K c.args.self.now.nodes.now c.args.at c.args.scope.now c.args.places.now c.args.graph.now p.sound p.room p.scoped st c.push-binder.new.self (rw c.variable.ensures at b.nodes) b.used b.kept.1 c.enter.new.self c.push-binder.result b.place c.enter.ensures.held c.in_err-body-in-Abstraction.ensures.passed)
 
 pub returns-in_err-f-in-Application-clause-passed : goal.returns-in_err-f-in-Application-clause-passed
 returns-in_err-f-in-Application-clause-passed g t c =
     let E : Lists = g.E.Source.list c.args.self.now.entries.now in
     let K : Lists = g.K.Source.list c.args.self.now.kept.now in
     let p = c.requires in
-    let st : Starts c.args.self.now.terms.now c.args.at (Some Application) = starts_some _ _ _ _ _ c.in_ok-get.ensures.lookup.3 c.in_ok-symbol.ensures c.in-Application.is in
-    rw c.from_residual-in_err-f-in-Application.ensures (clash_function E K c.args.self.now.terms.now c.args.at c.args.scope.now c.args.places.now c.args.graph.now p.sound p.room p.scoped st c.in_err-f-in-Application.ensures.passed)
+    let st : Starts c.args.self.now.nodes.now c.args.at (Some Application) = starts_some _ _ _ _ _ c.in_ok-get.ensures.lookup.3 c.in_ok-symbol.ensures c.in-Application.is in
+    rw c.from_residual-in_err-f-in-Application.ensures (clash_function E K c.args.self.now.nodes.now c.args.at c.args.scope.now c.args.places.now c.args.graph.now p.sound p.room p.scoped st c.in_err-f-in-Application.ensures.passed)
 
 pub returns-in_err-x-in-Application-clause-passed : goal.returns-in_err-x-in-Application-clause-passed
 returns-in_err-x-in-Application-clause-passed g t c =
     let E : Lists = g.E.Source.list c.args.self.now.entries.now in
     let K : Lists = g.K.Source.list c.args.self.now.kept.now in
     let p = c.requires in
-    let st : Starts c.args.self.now.terms.now c.args.at (Some Application) = starts_some _ _ _ _ _ c.in_ok-get.ensures.lookup.3 c.in_ok-symbol.ensures c.in-Application.is in
-    rw c.from_residual-in_err-x-in-Application.ensures (clash_argument E K c.args.self.now.terms.now c.args.at c.args.scope.now c.args.places.now c.args.graph.now p.sound p.room p.scoped st c.pass-in-Application.new.scope _ c.pass-in-Application.new.graph _ c.in_ok-f-in-Application.ensures.passed c.in_err-x-in-Application.ensures.passed)
+    let st : Starts c.args.self.now.nodes.now c.args.at (Some Application) = starts_some _ _ _ _ _ c.in_ok-get.ensures.lookup.3 c.in_ok-symbol.ensures c.in-Application.is in
+    rw c.from_residual-in_err-x-in-Application.ensures (clash_argument E K c.args.self.now.nodes.now c.args.at c.args.scope.now c.args.places.now c.args.graph.now p.sound p.room p.scoped st c.pass-in-Application.new.scope _ c.pass-in-Application.new.graph _ c.in_ok-f-in-Application.ensures.passed c.in_err-x-in-Application.ensures.passed)
 
 pub returns-in_err-call-in-Application-clause-passed : goal.returns-in_err-call-in-Application-clause-passed
 returns-in_err-call-in-Application-clause-passed g t c =
     let E : Lists = g.E.Source.list c.args.self.now.entries.now in
     let K : Lists = g.K.Source.list c.args.self.now.kept.now in
     let p = c.requires in
-    let st : Starts c.args.self.now.terms.now c.args.at (Some Application) = starts_some _ _ _ _ _ c.in_ok-get.ensures.lookup.3 c.in_ok-symbol.ensures c.in-Application.is in
-    rw c.from_residual-in_err-call-in-Application.ensures (clash_call E K c.args.self.now.terms.now c.args.at c.args.scope.now c.args.places.now c.args.graph.now p.sound p.room p.scoped st c.pass-in-Application.new.scope _ c.pass-in-Application.new.graph _ c.in_ok-f-in-Application.ensures.passed c.pass-in-Application-2.new.scope _ c.pass-in-Application-2.new.graph _ c.in_ok-x-in-Application.ensures.passed c.in_err-call-in-Application.ensures.called)
+    let st : Starts c.args.self.now.nodes.now c.args.at (Some Application) = starts_some _ _ _ _ _ c.in_ok-get.ensures.lookup.3 c.in_ok-symbol.ensures c.in-Application.is in
+    rw c.from_residual-in_err-call-in-Application.ensures (clash_call E K c.args.self.now.nodes.now c.args.at c.args.scope.now c.args.places.now c.args.graph.now p.sound p.room p.scoped st c.pass-in-Application.new.scope _ c.pass-in-Application.new.graph _ c.in_ok-f-in-Application.ensures.passed c.pass-in-Application-2.new.scope _ c.pass-in-Application-2.new.graph _ c.in_ok-x-in-Application.ensures.passed c.in_err-call-in-Application.ensures.called)
 
 pub returns-in_err-copy-in-Primitive-clause-passed : goal.returns-in_err-copy-in-Primitive-clause-passed
 returns-in_err-copy-in-Primitive-clause-passed g t c =
     let E : Lists = g.E.Source.list c.args.self.now.entries.now in
     let K : Lists = g.K.Source.list c.args.self.now.kept.now in
     let p = c.requires in
-    let st : Starts c.args.self.now.terms.now c.args.at (Some (Primitive c.in-Primitive.k)) = starts_some _ _ _ _ _ c.in_ok-get.ensures.lookup.3 c.in_ok-symbol.ensures c.in-Primitive.is in
-    rw c.from_residual-in_err-copy-in-Primitive.ensures (clash_primitive E K c.args.self.now.terms.now c.args.at c.args.scope.now c.args.places.now c.args.graph.now p.sound p.room p.scoped _ c.copy.new.graph st c.in_err-copy-in-Primitive.ensures.copied)
+    let st : Starts c.args.self.now.nodes.now c.args.at (Some (Primitive c.in-Primitive.k)) = starts_some _ _ _ _ _ c.in_ok-get.ensures.lookup.3 c.in_ok-symbol.ensures c.in-Primitive.is in
+    rw c.from_residual-in_err-copy-in-Primitive.ensures (clash_primitive E K c.args.self.now.nodes.now c.args.at c.args.scope.now c.args.places.now c.args.graph.now p.sound p.room p.scoped _ c.copy.new.graph st c.in_err-copy-in-Primitive.ensures.copied)
 
 pub returns-in_err-copy-in-Reference-clause-passed : goal.returns-in_err-copy-in-Reference-clause-passed
 returns-in_err-copy-in-Reference-clause-passed g t c =
     let E : Lists = g.E.Source.list c.args.self.now.entries.now in
     let K : Lists = g.K.Source.list c.args.self.now.kept.now in
     let p = c.requires in
-    let st : Starts c.args.self.now.terms.now c.args.at (Some (Reference c.in-Reference.n)) = starts_some _ _ _ _ _ c.in_ok-get.ensures.lookup.3 c.in_ok-symbol.ensures c.in-Reference.is in
-    rw c.from_residual-in_err-copy-in-Reference.ensures (clash_reference E K c.args.self.now.terms.now c.args.at c.args.scope.now c.args.places.now c.args.graph.now p.sound p.room p.scoped _ c.copy-in-Reference.new.graph st c.in_err-copy-in-Reference.ensures.copied)
+    let st : Starts c.args.self.now.nodes.now c.args.at (Some (Reference c.in-Reference.n)) = starts_some _ _ _ _ _ c.in_ok-get.ensures.lookup.3 c.in_ok-symbol.ensures c.in-Reference.is in
+    rw c.from_residual-in_err-copy-in-Reference.ensures (clash_reference E K c.args.self.now.nodes.now c.args.at c.args.scope.now c.args.places.now c.args.graph.now p.sound p.room p.scoped _ c.copy-in-Reference.new.graph st c.in_err-copy-in-Reference.ensures.copied)
 
 pub returns-clause-graph : goal.returns-clause-graph
 returns-clause-graph g t c =
@@ -150,10 +150,10 @@ returns-clause-passed g t c =
     let in_places : c.args.at < length c.args.places.now = omega (arith, p.placed, c.in_ok-get.ensures.lookup.3.0) in
     elim c.match-symbol.branch [
       | in-Variable+in_ok-binder-in-Variable w ↦
-          (let st : Starts c.args.self.now.terms.now c.args.at (Some (Variable w.in-Variable.n)) = starts_some _ _ _ _ _ c.in_ok-get.ensures.lookup.3 c.in_ok-symbol.ensures w.in-Variable.is in
-          rw (w.scope-is, w.places-is, w.graph-is, w.found-is) (find_variable E K c.args.self.now.terms.now c.args.at c.args.scope.now c.args.places.now c.args.graph.now p.sound p.room p.scoped _ _ st in_places w.in_ok-binder-in-Variable.ensures))
+          (let st : Starts c.args.self.now.nodes.now c.args.at (Some (Variable w.in-Variable.n)) = starts_some _ _ _ _ _ c.in_ok-get.ensures.lookup.3 c.in_ok-symbol.ensures w.in-Variable.is in
+          rw (w.scope-is, w.places-is, w.graph-is, w.found-is) (find_variable E K c.args.self.now.nodes.now c.args.at c.args.scope.now c.args.places.now c.args.graph.now p.sound p.room p.scoped _ _ st in_places w.in_ok-binder-in-Variable.ensures))
       | in-Abstraction+in_ok-body-in-Abstraction w ↦
-          (let st : Starts c.args.self.now.terms.now c.args.at (Some Abstraction) = starts_some _ _ _ _ _ c.in_ok-get.ensures.lookup.3 c.in_ok-symbol.ensures w.in-Abstraction.is in
+          (let st : Starts c.args.self.now.nodes.now c.args.at (Some Abstraction) = starts_some _ _ _ _ _ c.in_ok-get.ensures.lookup.3 c.in_ok-symbol.ensures w.in-Abstraction.is in
           let b = w.push-binder.ensures in
           let e = w.enter.ensures in
           let f = w.in_ok-body-in-Abstraction.ensures in
@@ -161,17 +161,17 @@ returns-clause-passed g t c =
           let k = w.push.ensures in
           let e1 = rw w.variable.ensures at b.nodes in
           let e3 = rw w.arrow.ensures at k.nodes in
-          rw (w.scope-is, w.places-is, w.graph-is, w.found-is) (find_abstraction E K c.args.self.now.terms.now c.args.at c.args.scope.now c.args.places.now c.args.graph.now p.sound p.room p.scoped st w.push-binder.new.self e1 b.used b.kept.1 w.enter.new.self w.push-binder.result b.place e.held w.pass.new.scope w.leave.new.self w.pass.new.places w.pass.new.graph w.push.new.self w.in_ok-body-in-Abstraction.body w.push.result f.passed (omega (arith, in_places)) (scope_back c.args.scope.now w.enter.new.self w.pass.new.scope w.leave.new.self _ p.deep e.held e.depth f.passed.scope f.passed.depth l.held) (omega (arith, l.depth, f.passed.depth, e.depth)) f.graph.1 k.place k.used k.kept.1 e3))
+          rw (w.scope-is, w.places-is, w.graph-is, w.found-is) (find_abstraction E K c.args.self.now.nodes.now c.args.at c.args.scope.now c.args.places.now c.args.graph.now p.sound p.room p.scoped st w.push-binder.new.self e1 b.used b.kept.1 w.enter.new.self w.push-binder.result b.place e.held w.pass.new.scope w.leave.new.self w.pass.new.places w.pass.new.graph w.push.new.self w.in_ok-body-in-Abstraction.body w.push.result f.passed (omega (arith, in_places)) (scope_back c.args.scope.now w.enter.new.self w.pass.new.scope w.leave.new.self _ p.deep e.held e.depth f.passed.scope f.passed.depth l.held) (omega (arith, l.depth, f.passed.depth, e.depth)) f.graph.1 k.place k.used k.kept.1 e3))
       | in-Application+in_ok-f-in-Application+in_ok-x-in-Application+in_ok-call-in-Application w ↦
-          (let st : Starts c.args.self.now.terms.now c.args.at (Some Application) = starts_some _ _ _ _ _ c.in_ok-get.ensures.lookup.3 c.in_ok-symbol.ensures w.in-Application.is in
+          (let st : Starts c.args.self.now.nodes.now c.args.at (Some Application) = starts_some _ _ _ _ _ c.in_ok-get.ensures.lookup.3 c.in_ok-symbol.ensures w.in-Application.is in
           let f = w.in_ok-f-in-Application.ensures in
           let x = w.in_ok-x-in-Application.ensures in
           let k = w.call.ensures in
-          rw (w.scope-is, w.places-is, w.graph-is, w.found-is) (find_application E K c.args.self.now.terms.now c.args.at c.args.scope.now c.args.places.now c.args.graph.now p.sound p.room p.scoped st w.pass-in-Application.new.scope w.pass-in-Application.new.places w.pass-in-Application.new.graph w.in_ok-f-in-Application.f f.passed w.pass-in-Application-2.new.scope w.pass-in-Application-2.new.places w.pass-in-Application-2.new.graph w.in_ok-x-in-Application.x x.passed w.call.new.graph w.in_ok-call-in-Application.field-0 (omega (arith, in_places)) (k.kept.1 ∙ x.graph.1 ∙ f.graph.1) k.used w.in_ok-call-in-Application.ensures.called))
+          rw (w.scope-is, w.places-is, w.graph-is, w.found-is) (find_application E K c.args.self.now.nodes.now c.args.at c.args.scope.now c.args.places.now c.args.graph.now p.sound p.room p.scoped st w.pass-in-Application.new.scope w.pass-in-Application.new.places w.pass-in-Application.new.graph w.in_ok-f-in-Application.f f.passed w.pass-in-Application-2.new.scope w.pass-in-Application-2.new.places w.pass-in-Application-2.new.graph w.in_ok-x-in-Application.x x.passed w.call.new.graph w.in_ok-call-in-Application.field-0 (omega (arith, in_places)) (k.kept.1 ∙ x.graph.1 ∙ f.graph.1) k.used w.in_ok-call-in-Application.ensures.called))
       | in-Primitive+in_ok-copy-in-Primitive w ↦
-          (let st : Starts c.args.self.now.terms.now c.args.at (Some (Primitive w.in-Primitive.k)) = starts_some _ _ _ _ _ c.in_ok-get.ensures.lookup.3 c.in_ok-symbol.ensures w.in-Primitive.is in
-          rw (w.scope-is, w.places-is, w.graph-is, w.found-is) (find_primitive E K c.args.self.now.terms.now c.args.at c.args.scope.now c.args.places.now c.args.graph.now p.sound p.room p.scoped _ _ w.copy.new.graph st in_places w.copy.ensures.used w.copy.ensures.kept.1 w.in_ok-copy-in-Primitive.ensures.copied))
+          (let st : Starts c.args.self.now.nodes.now c.args.at (Some (Primitive w.in-Primitive.k)) = starts_some _ _ _ _ _ c.in_ok-get.ensures.lookup.3 c.in_ok-symbol.ensures w.in-Primitive.is in
+          rw (w.scope-is, w.places-is, w.graph-is, w.found-is) (find_primitive E K c.args.self.now.nodes.now c.args.at c.args.scope.now c.args.places.now c.args.graph.now p.sound p.room p.scoped _ _ w.copy.new.graph st in_places w.copy.ensures.used w.copy.ensures.kept.1 w.in_ok-copy-in-Primitive.ensures.copied))
       | in-Reference+in_ok-copy-in-Reference w ↦
-          (let st : Starts c.args.self.now.terms.now c.args.at (Some (Reference w.in-Reference.n)) = starts_some _ _ _ _ _ c.in_ok-get.ensures.lookup.3 c.in_ok-symbol.ensures w.in-Reference.is in
-          rw (w.scope-is, w.places-is, w.graph-is, w.found-is) (find_reference E K c.args.self.now.terms.now c.args.at c.args.scope.now c.args.places.now c.args.graph.now p.sound p.room p.scoped _ _ w.copy-in-Reference.new.graph st in_places w.copy-in-Reference.ensures.used w.copy-in-Reference.ensures.kept.1 w.in_ok-copy-in-Reference.ensures.copied))
+          (let st : Starts c.args.self.now.nodes.now c.args.at (Some (Reference w.in-Reference.n)) = starts_some _ _ _ _ _ c.in_ok-get.ensures.lookup.3 c.in_ok-symbol.ensures w.in-Reference.is in
+          rw (w.scope-is, w.places-is, w.graph-is, w.found-is) (find_reference E K c.args.self.now.nodes.now c.args.at c.args.scope.now c.args.places.now c.args.graph.now p.sound p.room p.scoped _ _ w.copy-in-Reference.new.graph st in_places w.copy-in-Reference.ensures.used w.copy-in-Reference.ensures.kept.1 w.in_ok-copy-in-Reference.ensures.copied))
     ]
