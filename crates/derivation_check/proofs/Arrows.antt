@@ -7,34 +7,30 @@ use Rattle.types.specs.Lists.{zero_node, Lawful, type_at}
 use Rattle.types.proofs.Reading.{at_branch}
 use Rattle.instance.specs.Once.{Once}
 use Rattle.instance.proofs.Places.{left_of, right_of, places_are_types}
+use Rattle.derivation_check.specs.Arrows.{ArrowOf}
 
-module _ (l : List TypeNode) (law : Lawful l) (once : Once l) (q : ℕ) (hq : q < length l) where
-  abbrev node : TypeNode
-  node = get_or l q zero_node
+-- a node of the kind 2 is an arrow between the types at its places
+pub arrow_node : (l : List TypeNode) → Lawful l → (q : ℕ) → q < length l → (get_or l q zero_node).kind ≡ 2 → ArrowOf l (type_at l q) (get_or l q zero_node).left (get_or l q zero_node).right
+arrow_node l law q h two =
+    let n = get_or l q zero_node in
+    let w = (law.each q h).lower (omega arith) in
+    record {
+      from_inside = w.0;
+      to_inside = w.1;
+      is = at_branch l law.each q h (omega arith) ∙ ap (λ (k : ℕ). branch k (type_at l n.left) (type_at l n.right)) two;
+    }
 
-  module _ (two : node.kind ≡ 2) where
-    is_arrow : type_at l q ≡ arrow (type_at l node.left) (type_at l node.right)
-    is_arrow = at_branch l law.each q hq (omega arith) ∙ ap (λ (k : ℕ). branch k (type_at l node.left) (type_at l node.right)) two
+module _ (l : List TypeNode) (law : Lawful l) (once : Once l) (τ : Ty) (a b : ℕ) (w : ArrowOf l τ a b) where
+  pub decides_from : (p : ℕ) → p < length l → Decides (eqb a p) ((υ : Ty) × (τ ≡ arrow (type_at l p) υ))
+  decides_from p hp =
+      Decides-like (eqb a p)
+      (λ e. (type_at l b, w.is ∙ ap (λ (x : ℕ). arrow (type_at l x) (type_at l b)) e))
+      (λ v. places_are_types l law.each once a p w.from_inside hp (ap left_of (sym w.is ∙ v.1)))
+      (Decides-eqb a p)
 
-    parts_inside : (node.left < length l) × (node.right < length l)
-    parts_inside = let w = (law.each q hq).lower (omega arith) in (omega (arith, w.0), omega (arith, w.1))
-
-    pub decides_from : (p : ℕ) → p < length l → Decides (eqb node.left p) ((τ : Ty) × (type_at l q ≡ arrow (type_at l p) τ))
-    decides_from p hp =
-        Decides-like (eqb node.left p)
-        (λ e. (type_at l node.right, is_arrow ∙ ap (λ (x : ℕ). arrow (type_at l x) (type_at l node.right)) e))
-        (λ w. places_are_types l law.each once node.left p parts_inside.0 hp (ap left_of (sym is_arrow ∙ w.1)))
-        (Decides-eqb node.left p)
-
-    pub decides_to : (p : ℕ) → p < length l → Decides (eqb node.right p) ((α : Ty) × (type_at l q ≡ arrow α (type_at l p)))
-    decides_to p hp =
-        Decides-like (eqb node.right p)
-        (λ e. (type_at l node.left, is_arrow ∙ ap (λ (x : ℕ). arrow (type_at l node.left) (type_at l x)) e))
-        (λ w. places_are_types l law.each once node.right p parts_inside.1 hp (ap right_of (sym is_arrow ∙ w.1)))
-        (Decides-eqb node.right p)
-
--- an arrow from a and to b is the arrow from a to b
-pub decides_arrow : (x a b : Ty) (r s : Bool) → Decides r ((τ : Ty) × (x ≡ arrow a τ)) → Decides s ((α : Ty) × (x ≡ arrow α b)) → r ≡ true → Decides s (x ≡ arrow a b)
-decides_arrow x a b r s from to yes-from =
-    let f = from.0 yes-from in
-    Decides-like s (λ w. f.1 ∙ ap (arrow a) (ap right_of (sym f.1 ∙ w.1))) (λ e. (a, e)) to
+  pub decides_to : (p : ℕ) → p < length l → Decides (eqb b p) ((α : Ty) × (τ ≡ arrow α (type_at l p)))
+  decides_to p hp =
+      Decides-like (eqb b p)
+      (λ e. (type_at l a, w.is ∙ ap (λ (x : ℕ). arrow (type_at l a) (type_at l x)) e))
+      (λ v. places_are_types l law.each once b p w.to_inside hp (ap right_of (sym w.is ∙ v.1)))
+      (Decides-eqb b p)

@@ -82,42 +82,23 @@ arity_few (suc zero) = omega arith
 arity_few (suc (suc zero)) = omega arith
 arity_few (suc (suc (suc k))) = omega arith
 
--- n terms are still to come after the place j of a walk from i
-pub record Walked (ts : List TermNode) (i j n : ℕ) : Type 0 where
-  pub inside : j ≤ length ts
-  pub from : i ≤ j
-  pub few : i + n ≤ j + 1
-  pub rest : j + span n (drop j ts) ≡ end ts i
+-- n terms are still to come after the first j nodes of a walk
+pub record Walked (ts : List TermNode) (j n : ℕ) : Type 0 where
+  pub few : n ≤ j + 1
+  pub rest : j + span n (drop j ts) ≡ span 1 ts
 
-module _ (ts : List TermNode) (i j n : ℕ) (w : Walked ts i j n) where
-  pub walked_more : (m k : ℕ) → j < length ts → m + 1 ≡ n → arity (get_or ts j zero_node).kind ≡ k → Walked ts i (j + 1) (m + k)
+module _ (ts : List TermNode) (j n : ℕ) (w : Walked ts j n) where
+  pub walked_more : (m k : ℕ) → j < length ts → m + 1 ≡ n → arity (get_or ts j zero_node).kind ≡ k → Walked ts (j + 1) (m + k)
   walked_more m k h e a =
       let few : k ≤ 2 = subst (λ (x : ℕ). x ≤ 2) a (arity_few (get_or ts j zero_node).kind) in
       let n-is : n ≡ suc m = omega arith in
       let order : arity (get_or ts j zero_node).kind + m ≡ m + k = omega (arith, a) in
       let s = ap (λ (x : ℕ). span x (drop j ts)) n-is ∙ span_at ts j m h ∙ ap (λ (x : ℕ). suc (span x (drop (j + 1) ts))) order in
-      record { inside = omega arith; from = omega (arith, w.from); few = omega (arith, w.few); rest = omega (arith, s, w.rest) }
+      record { few = omega (arith, w.few); rest = omega (arith, s, w.rest) }
 
-  pub walked_all : (n ≡ 0) ⊎ (length ts ≤ j) → j ≡ end ts i
+  pub walked_all : (n ≡ 0) ⊎ (length ts ≤ j) → j ≡ span 1 ts
   walked_all (inl z) = let s = ap (λ (x : ℕ). span x (drop j ts)) z in omega (arith, s, w.rest)
   walked_all (inr h) = let s = ap (span n) (drop_all j ts h) ∙ span_nil n in omega (arith, s, w.rest)
-
--- the ends are noted from i on
-pub record Noted (ts : List TermNode) (es : List ℕ) (i : ℕ) : Type 0 where
-  pub inside : i ≤ length es
-  pub each : (k : ℕ) → i ≤ k → k < length es → get_or es k 0 ≡ end ts k
-
-pub noted_more : (ts : List TermNode) (es : List ℕ) (i j e : ℕ) → j + 1 ≡ i → Noted ts es i → e ≡ end ts j → Noted ts (set es j e) j
-noted_more ts es i j e q noted is =
-    let long = length-set es j e in
-    record {
-      inside = omega (arith, noted.inside, long);
-      each = λ k a b.
-          ⊎_elim
-          (λ (z : k ≡ j). subst (λ (x : ℕ). get_or (set es j e) x 0 ≡ end ts x) (sym z) (get_or-set_same es j e 0 (omega (arith, noted.inside)) ∙ is))
-          (λ (n : k ≢ j). get_or-set_other es j k e 0 n ∙ noted.each k (omega arith) (omega (arith, long)))
-          (cases_eq k j);
-    }
 
 from_some : Option ℕ → ℕ
 from_some None = 0
