@@ -1,23 +1,25 @@
 // Where the subterms of a list of term nodes in prefix order end, and which abstraction a variable means.
 ghost use Rattle.std.specs.Prelude.{◌≡◌, ℕ, ◌<◌, ◌≤◌, length, drop, slice_index};
+ghost use Rattle.term.specs.Symbols.{symbol_of};
 ghost use Rattle.derivation_check.specs.Prefixes.{arity, span, end, opens, binder};
 
-use term::TermNode;
+use term::{Symbol, TermNode};
 
 // How many parts a node has: an abstraction one, an application two.
 fn parts_of(node: TermNode) -> usize
-    ensures { result ≡ arity node.kind }
+    ensures { result ≡ arity (symbol_of node) }
 {
-    match node.kind {
-        1 => 1,
-        2 => 2,
+    match node.symbol() {
+        Some(Symbol::Abstraction) => 1,
+        Some(Symbol::Application) => 2,
         _ => 0,
     }
 }
 
 // How many nodes the first term of a list takes, by a walk over them.
 fn walk(terms: &[TermNode]) -> usize
-    ensures { result ≡ span 1 terms.now }
+    ensures few { result ≤ length terms.now }
+    ensures is { result ≡ span 1 terms.now }
 {
     let mut missing = 1;
     for (next, term) in terms.iter().enumerate() {
@@ -59,15 +61,17 @@ impl<'t, 's> Prefix<'t, 's> {
         requires { at ≤ length self.now.terms.now }
         ensures { result ≡ end self.now.terms.now at }
     {
+        let rest = &self.terms[at..];
         match self.sizes.get(at) {
             Some(size) => at + *size,
-            None => at + walk(&self.terms[at..]),
+            None => at + walk(rest),
         }
     }
 
     // How many nodes the first `count` terms take.
     fn span(&self, count: usize) -> usize
-        ensures { result ≡ span count self.now.terms.now }
+        ensures few { result ≤ length self.now.terms.now }
+        ensures is { result ≡ span count self.now.terms.now }
     {
         let mut at = 0;
         for _ in 0..count {
@@ -81,7 +85,7 @@ impl<'t, 's> Prefix<'t, 's> {
         requires { b < length self.now.terms.now }
         ensures { result ≡ opens self.now.terms.now i b }
     {
-        self.terms[b].kind == 1 && i < self.end_at(b)
+        self.terms[b].symbol() == Some(Symbol::Abstraction) && i < self.end_at(b)
     }
 
     // The abstraction that a variable with the number `number` at `i` means.

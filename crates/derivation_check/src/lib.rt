@@ -1,11 +1,10 @@
 // The check of a typing derivation: every node of a term against the types that a list of types gives the nodes.
 #![tactic(auto)]
 
-ghost use Rattle.std.specs.Prelude.{length, Decides, MatchResult};
-ghost use Rattle.types.specs.Lists.{Lawful};
-ghost use Rattle.instance.specs.Once.{Once};
+ghost use Rattle.std.specs.Prelude.{◌≡◌, length, MatchResult};
 ghost use Rattle.derivation_check.specs.Steps.{StepsAreTypings};
-ghost use Rattle.derivation_check.specs.Checking.{types, Placed, Judged, Checked, Refuses};
+ghost use Rattle.derivation_check.specs.Checking.{Judged, Checked, Refuses};
+ghost use Rattle.derivation_check.specs.Arrows.{type_of};
 ghost use Rattle.derivation_check.specs.Faults.{says};
 
 use crate::ends::Prefix;
@@ -13,9 +12,8 @@ use crate::fault::CheckFault;
 use crate::node_types::NodeTypes;
 use crate::steps::Derivation;
 use copy::Source;
-use instance::is_once;
 use term::TermNode;
-use types::{MOST_NODES, TypeNode, is_lawful};
+use types::TypeNode;
 
 mod ends;
 pub mod fault;
@@ -26,25 +24,15 @@ mod steps;
 // so that a longer list of nodes is answered too, if not as fast.
 const NOTED: usize = 1024;
 
-// Whether there are just `count` places, all of them below `nodes`.
-fn are_places(places: &[u16], count: usize, nodes: usize) -> bool
-    ensures { Decides result (Placed places.now count nodes) }
-{
-    places.len() == count && places.iter().all(|place| (*place as usize) < nodes)
-}
-
 // The first node without its typing step.
 fn judge<'a, E: Source, K: Source>(
     entries: &'a E,
     kept: &'a K,
     terms: &'a [TermNode],
-    list: &'a [TypeNode],
-    places: &'a [u16],
+    types: NodeTypes<'a>,
 ) -> Option<usize>
-    requires lawful { Lawful list.now }
-    requires once { Once list.now }
-    requires placed { Placed places.now (length terms.now) (length list.now) }
-    ensures { Judged (E.Source.list entries.now) (K.Source.list kept.now) terms.now (types list.now places.now) result }
+    requires { length types.places.now ≡ length terms.now }
+    ensures { Judged (E.Source.list entries.now) (K.Source.list kept.now) terms.now (type_of types.entry) result }
 {
     let mut sizes = [0usize; NOTED];
     let noted = terms.len().min(NOTED);
@@ -52,7 +40,7 @@ fn judge<'a, E: Source, K: Source>(
         entries,
         kept,
         term: Prefix::new(terms, &mut sizes[..noted]),
-        types: NodeTypes { list, places },
+        types,
     };
     derivation.first_failing()
 }
@@ -69,19 +57,12 @@ pub fn check<E: Source, K: Source>(
     ensures answer { MatchResult result (λ _. Checked (E.Source.list entries.now) (K.Source.list kept.now) terms.now list.now places.now) (λ f. Refuses (E.Source.list entries.now) (K.Source.list kept.now) terms.now list.now places.now (says f)) }
     ensures typings { StepsAreTypings }
 {
-    if list.is_empty() || list.len() > MOST_NODES {
-        return Err(CheckFault::Length);
+    let types = NodeTypes::new(list, places, terms.len())?;
+    // A match, as a node that is found is the fault here, and none the success.
+    match judge(entries, kept, terms, types) {
+        None => Ok(()),
+        Some(at) => Err(CheckFault::Step(at)),
     }
-    if !is_lawful(list) {
-        return Err(CheckFault::Unlawful);
-    }
-    if !is_once(list) {
-        return Err(CheckFault::Equal);
-    }
-    if !are_places(places, terms.len(), list.len()) {
-        return Err(CheckFault::Places);
-    }
-    judge(entries, kept, terms, list, places).map_or(Ok(()), |at| Err(CheckFault::Step(at)))
 }
 
 #[cfg(test)]

@@ -12,6 +12,7 @@ use crate::node_types::NodeTypes;
 use copy::Source;
 use copy::load::load;
 use instance::fits;
+use term::Symbol;
 use types::{MOST_NODES, TypeNode};
 
 // Whether the type at a place is an instance of the type that list `k` means.
@@ -53,21 +54,20 @@ impl<E: Source, K: Source> Derivation<'_, '_, E, K> {
         requires { i < length self.now.term.terms.now }
         ensures { Decides result (Step (E.Source.list self.now.entries.now) (K.Source.list self.now.kept.now) self.now.term.terms.now (type_of self.now.types) i) }
     {
-        let node = self.term.terms[i];
         let types = self.types;
-        match node.kind {
-            0 => match self.term.find_binder(i, node.number) {
+        match self.term.terms[i].symbol() {
+            None => false,
+            Some(Symbol::Variable(n)) => match self.term.find_binder(i, n) {
                 Some(b) => types.is_from(b, i),
                 None => false,
             },
-            1 => i + 1 < self.term.terms.len() && types.is_to(i, i + 1),
-            2 => {
+            Some(Symbol::Abstraction) => i + 1 < self.term.terms.len() && types.is_to(i, i + 1),
+            Some(Symbol::Application) => {
                 let argument = self.term.end_at(i + 1);
                 argument < self.term.terms.len() && types.is_arrow(i + 1, argument, i)
             }
-            3 => is_of_list(self.entries, node.number, types.list, types.places[i]),
-            4 => is_of_list(self.kept, node.number, types.list, types.places[i]),
-            _ => false,
+            Some(Symbol::Primitive(n)) => is_of_list(self.entries, n, types.list, types.places[i]),
+            Some(Symbol::Reference(n)) => is_of_list(self.kept, n, types.list, types.places[i]),
         }
     }
 
