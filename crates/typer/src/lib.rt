@@ -13,7 +13,7 @@ use crate::fault::{DeriveFault, TypesFault};
 use crate::nodes::{clear, list_nodes};
 use crate::question::{ask, ask_derivation};
 use copy::Source;
-use term::TermNode;
+use infer::Term;
 use types::TypeNode;
 
 pub mod fault;
@@ -32,22 +32,20 @@ pub fn one_answer_stands() -> u8
 // type memory, with zero nodes behind the list, and where they stand in the places. The numbers are zeros then, and where
 // the term has no type, the rest too.
 fn work<E: Source, K: Source>(
-    entries: &E,
-    kept: &K,
-    terms: &[TermNode],
+    term: &Term<E, K>,
     records: usize,
     types: &mut [TypeNode],
     places: &mut [u16],
     numbers: &mut [u32],
 ) -> Option<usize>
-    requires is { records ≡ need (E.Source.list entries.now) (K.Source.list kept.now) terms.now }
-    requires serves { Serves records (length terms.now) (length types.old) (length numbers.old) }
-    requires nodes { 0 < length terms.now → length places.old ≤ length terms.now }
-    ensures listing { Listing (E.Source.list entries.now) (K.Source.list kept.now) terms.now places.new types.new result }
+    requires is { records ≡ need (E.Source.list term.now.entries.now) (K.Source.list term.now.kept.now) term.now.nodes.now }
+    requires serves { Serves records (length term.now.nodes.now) (length types.old) (length numbers.old) }
+    requires nodes { 0 < length term.now.nodes.now → length places.old ≤ length term.now.nodes.now }
+    ensures listing { Listing (E.Source.list term.now.entries.now) (K.Source.list term.now.kept.now) term.now.nodes.now places.new types.new result }
     ensures places { IfNone result (Zeros places.new) }
     ensures zeros { Zeros numbers.new }
 {
-    let found = list_nodes(entries, kept, terms, &mut types[..records], places, numbers);
+    let found = list_nodes(term, &mut types[..records], places, numbers);
     clear(&mut types[records..]);
     numbers.fill(0);
     if found.is_none() {
@@ -60,18 +58,16 @@ fn work<E: Source, K: Source>(
 // type memory, with zero nodes behind it, and the number of its records answered. The numbers are zeros then. A refusal
 // before the work leaves both memories as they are; that there is no type leaves zeros in both.
 pub fn type_term<E: Source, K: Source>(
-    entries: &E,
-    kept: &K,
-    terms: &[TermNode],
+    term: &Term<E, K>,
     types: &mut [TypeNode],
     numbers: &mut [u32],
 ) -> Result<usize, TypesFault>
-    ensures answer { MatchResult result (λ n. Typed (E.Source.list entries.now) (K.Source.list kept.now) terms.now types.new numbers.new n) (λ f. Refuses (E.Source.list entries.now) (K.Source.list kept.now) terms.now types.old types.new numbers.old numbers.new (says f)) }
-    ensures served { IfOk result (λ _. Serves (need (E.Source.list entries.now) (K.Source.list kept.now) terms.now) (length terms.now) (length types.old) (length numbers.old)) }
+    ensures answer { MatchResult result (λ n. Typed (E.Source.list term.now.entries.now) (K.Source.list term.now.kept.now) term.now.nodes.now types.new numbers.new n) (λ f. Refuses (E.Source.list term.now.entries.now) (K.Source.list term.now.kept.now) term.now.nodes.now types.old types.new numbers.old numbers.new (says f)) }
+    ensures served { IfOk result (λ _. Serves (need (E.Source.list term.now.entries.now) (K.Source.list term.now.kept.now) term.now.nodes.now) (length term.now.nodes.now) (length types.old) (length numbers.old)) }
 {
-    let records = ask(entries, kept, terms, types.len(), numbers.len())?;
+    let records = ask(term, types.len(), numbers.len())?;
     let mut root = [0u16];
-    work(entries, kept, terms, records, types, &mut root, numbers).ok_or(TypesFault::NoType)
+    work(term, records, types, &mut root, numbers).ok_or(TypesFault::NoType)
 }
 
 // The derivation of a term's most general type: the normal list of the types of its nodes, in their order, is written to
@@ -79,28 +75,24 @@ pub fn type_term<E: Source, K: Source>(
 // behind; the number of the list's records is answered. The numbers are zeros then. A refusal before the work leaves the
 // memories as they are; that there is no type leaves zeros in all three.
 pub fn derive<E: Source, K: Source>(
-    entries: &E,
-    kept: &K,
-    terms: &[TermNode],
+    term: &Term<E, K>,
     types: &mut [TypeNode],
     places: &mut [u16],
     numbers: &mut [u32],
 ) -> Result<usize, DeriveFault>
-    ensures answer { MatchResult result (λ n. Derived (E.Source.list entries.now) (K.Source.list kept.now) terms.now types.new places.new numbers.new n) (λ f. Underived (E.Source.list entries.now) (K.Source.list kept.now) terms.now types.old types.new places.old places.new numbers.old numbers.new (derive_says f)) }
-    ensures held { IfOk result (λ _. Holds (need (E.Source.list entries.now) (K.Source.list kept.now) terms.now) (length terms.now) (length types.old) (length places.old) (length numbers.old)) }
-    ensures nodes { IfOk result (λ n. DerivedNodes (E.Source.list entries.now) (K.Source.list kept.now) terms.now types.new places.new numbers.new n) }
+    ensures answer { MatchResult result (λ n. Derived (E.Source.list term.now.entries.now) (K.Source.list term.now.kept.now) term.now.nodes.now types.new places.new numbers.new n) (λ f. Underived (E.Source.list term.now.entries.now) (K.Source.list term.now.kept.now) term.now.nodes.now types.old types.new places.old places.new numbers.old numbers.new (derive_says f)) }
+    ensures held { IfOk result (λ _. Holds (need (E.Source.list term.now.entries.now) (K.Source.list term.now.kept.now) term.now.nodes.now) (length term.now.nodes.now) (length types.old) (length places.old) (length numbers.old)) }
+    ensures nodes { IfOk result (λ n. DerivedNodes (E.Source.list term.now.entries.now) (K.Source.list term.now.kept.now) term.now.nodes.now types.new places.new numbers.new n) }
 {
     let records = ask_derivation(
-        entries,
-        kept,
-        terms,
+        term,
         types.len(),
         places.len(),
         numbers.len(),
     )?;
-    let (own, rest) = places.split_at_mut(terms.len());
+    let (own, rest) = places.split_at_mut(term.nodes.len());
     rest.fill(0);
-    work(entries, kept, terms, records, types, own, numbers).ok_or(DeriveFault::NoType)
+    work(term, records, types, own, numbers).ok_or(DeriveFault::NoType)
 }
 
 #[cfg(test)]

@@ -6,8 +6,7 @@ ghost use Rattle.typer.specs.Nodes.{Listing};
 ghost use Rattle.typer.specs.Parts.{Cut};
 
 use copy::Source;
-use infer::infer;
-use term::TermNode;
+use infer::Term;
 use types::TypeNode;
 use walk::list_types;
 
@@ -63,18 +62,16 @@ impl<'a> Parts<'a> {
     // The work on a term that has nodes.
     fn list<E: Source, K: Source>(
         self,
-        entries: &E,
-        kept: &K,
-        terms: &[TermNode],
+        term: &Term<E, K>,
         memory: &mut [TypeNode],
         places: &mut [u16],
     ) -> Option<usize>
-        requires some { 0 < length terms.now }
-        requires records { length memory.old ≡ need (E.Source.list entries.now) (K.Source.list kept.now) terms.now }
+        requires some { 0 < length term.now.nodes.now }
+        requires records { length memory.old ≡ need (E.Source.list term.now.entries.now) (K.Source.list term.now.kept.now) term.now.nodes.now }
         requires few { length memory.old ≤ 4096 }
-        requires nodes { length places.old ≤ length terms.now }
-        requires cut { Cut (length terms.now) (length memory.old) self }
-        ensures { Listing (E.Source.list entries.now) (K.Source.list kept.now) terms.now places.new memory.new result }
+        requires nodes { length places.old ≤ length term.now.nodes.now }
+        requires cut { Cut (length term.now.nodes.now) (length memory.old) self }
+        ensures { Listing (E.Source.list term.now.entries.now) (K.Source.list term.now.kept.now) term.now.nodes.now places.new memory.new result }
     {
         let Parts {
             binders,
@@ -84,7 +81,7 @@ impl<'a> Parts<'a> {
             heads,
             nexts,
         } = self;
-        let Some(used) = infer(entries, kept, terms, binders, roots, marks, memory) else {
+        let Some(used) = term.infer(binders, roots, marks, memory) else {
             clear(memory);
             return None;
         };
@@ -101,23 +98,21 @@ impl<'a> Parts<'a> {
 // many records as the term needs, and where each of these types stands into the places; none where the term has no type.
 // The numbers are room to work in: two parts as long as the term, and four as long as the memory.
 pub fn list_nodes<E: Source, K: Source>(
-    entries: &E,
-    kept: &K,
-    terms: &[TermNode],
+    term: &Term<E, K>,
     memory: &mut [TypeNode],
     places: &mut [u16],
     numbers: &mut [u32],
 ) -> Option<usize>
-    requires records { length memory.old ≡ need (E.Source.list entries.now) (K.Source.list kept.now) terms.now }
+    requires records { length memory.old ≡ need (E.Source.list term.now.entries.now) (K.Source.list term.now.kept.now) term.now.nodes.now }
     requires few { length memory.old ≤ 4096 }
-    requires nodes { 0 < length terms.now → length places.old ≤ length terms.now }
-    requires room { 4 * length memory.old + 2 * length terms.now ≤ length numbers.old }
-    ensures { Listing (E.Source.list entries.now) (K.Source.list kept.now) terms.now places.new memory.new result }
+    requires nodes { 0 < length term.now.nodes.now → length places.old ≤ length term.now.nodes.now }
+    requires room { 4 * length memory.old + 2 * length term.now.nodes.now ≤ length numbers.old }
+    ensures { Listing (E.Source.list term.now.entries.now) (K.Source.list term.now.kept.now) term.now.nodes.now places.new memory.new result }
 {
-    if terms.is_empty() {
+    if term.nodes.is_empty() {
         clear(memory);
         return None;
     }
-    let parts = Parts::split(numbers, terms.len(), memory.len());
-    parts.list(entries, kept, terms, memory, places)
+    let parts = Parts::split(numbers, term.nodes.len(), memory.len());
+    parts.list(term, memory, places)
 }

@@ -8,8 +8,7 @@ ghost use Rattle.typer.specs.Questions.{numbers_for, Few, Served, Unserved};
 
 use crate::fault::{DeriveFault, TypesFault};
 use copy::Source;
-use infer::needed;
-use term::TermNode;
+use infer::Term;
 use types::MOST_NODES;
 
 // How many numbers the work takes on a term of `nodes` nodes that needs `records` type records.
@@ -20,12 +19,12 @@ pub fn numbers_needed(records: usize, nodes: usize) -> u128
 }
 
 // How many type records a term needs, if they are at most 4,096.
-pub fn few_records<E: Source, K: Source>(entries: &E, kept: &K, terms: &[TermNode]) -> Option<usize>
-    ensures { MatchOption result (4096 < need (E.Source.list entries.now) (K.Source.list kept.now) terms.now) (λ n. Few (need (E.Source.list entries.now) (K.Source.list kept.now) terms.now) n) }
+pub fn few_records<E: Source, K: Source>(term: &Term<E, K>) -> Option<usize>
+    ensures { MatchOption result (4096 < need (E.Source.list term.now.entries.now) (K.Source.list term.now.kept.now) term.now.nodes.now) (λ n. Few (need (E.Source.list term.now.entries.now) (K.Source.list term.now.kept.now) term.now.nodes.now) n) }
 {
     let mut sum = 0;
-    for term in terms {
-        sum += needed(entries, kept, &[*term]);
+    for node in term.nodes {
+        sum += term.need_of(*node) as usize;
         if sum > MOST_NODES {
             return None;
         }
@@ -35,14 +34,12 @@ pub fn few_records<E: Source, K: Source>(entries: &E, kept: &K, terms: &[TermNod
 
 // How many records a term needs, if a type memory of `types` records has as many.
 fn ask_records<E: Source, K: Source>(
-    entries: &E,
-    kept: &K,
-    terms: &[TermNode],
+    term: &Term<E, K>,
     types: usize,
 ) -> Result<usize, TypesFault>
-    ensures { MatchResult result (λ n. (n ≡ need (E.Source.list entries.now) (K.Source.list kept.now) terms.now) × Fits (need (E.Source.list entries.now) (K.Source.list kept.now) terms.now) types) (λ f. NotFits (need (E.Source.list entries.now) (K.Source.list kept.now) terms.now) types f) }
+    ensures { MatchResult result (λ n. (n ≡ need (E.Source.list term.now.entries.now) (K.Source.list term.now.kept.now) term.now.nodes.now) × Fits (need (E.Source.list term.now.entries.now) (K.Source.list term.now.kept.now) term.now.nodes.now) types) (λ f. NotFits (need (E.Source.list term.now.entries.now) (K.Source.list term.now.kept.now) term.now.nodes.now) types f) }
 {
-    let records = few_records(entries, kept, terms).ok_or(TypesFault::TooMuch)?;
+    let records = few_records(term).ok_or(TypesFault::TooMuch)?;
     if types < records {
         return Err(TypesFault::NoTypeRoom);
     }
@@ -62,16 +59,14 @@ fn ask_numbers(records: usize, nodes: usize, numbers: usize) -> Result<(), Types
 // Whether a term can be typed in a type memory of `types` records and a number memory of `numbers` numbers: how many
 // records it needs, or the first question that is answered with no.
 pub fn ask<E: Source, K: Source>(
-    entries: &E,
-    kept: &K,
-    terms: &[TermNode],
+    term: &Term<E, K>,
     types: usize,
     numbers: usize,
 ) -> Result<usize, TypesFault>
-    ensures { MatchResult result (λ n. Served (need (E.Source.list entries.now) (K.Source.list kept.now) terms.now) (length terms.now) types numbers n) (λ f. Unserved (need (E.Source.list entries.now) (K.Source.list kept.now) terms.now) (length terms.now) types numbers (says f)) }
+    ensures { MatchResult result (λ n. Served (need (E.Source.list term.now.entries.now) (K.Source.list term.now.kept.now) term.now.nodes.now) (length term.now.nodes.now) types numbers n) (λ f. Unserved (need (E.Source.list term.now.entries.now) (K.Source.list term.now.kept.now) term.now.nodes.now) (length term.now.nodes.now) types numbers (says f)) }
 {
-    let records = ask_records(entries, kept, terms, types)?;
-    ask_numbers(records, terms.len(), numbers)?;
+    let records = ask_records(term, types)?;
+    ask_numbers(records, term.nodes.len(), numbers)?;
     Ok(records)
 }
 
@@ -91,19 +86,17 @@ impl From<TypesFault> for DeriveFault {
 // Whether the derivation of a term has room in memories of so many records, places and numbers: how many records it
 // needs, or the first question that is answered with no.
 pub fn ask_derivation<E: Source, K: Source>(
-    entries: &E,
-    kept: &K,
-    terms: &[TermNode],
+    term: &Term<E, K>,
     types: usize,
     places: usize,
     numbers: usize,
 ) -> Result<usize, DeriveFault>
-    ensures { MatchResult result (λ n. Roomy (need (E.Source.list entries.now) (K.Source.list kept.now) terms.now) (length terms.now) types places numbers n) (λ f. Roomless (need (E.Source.list entries.now) (K.Source.list kept.now) terms.now) (length terms.now) types places numbers (derive_says f)) }
+    ensures { MatchResult result (λ n. Roomy (need (E.Source.list term.now.entries.now) (K.Source.list term.now.kept.now) term.now.nodes.now) (length term.now.nodes.now) types places numbers n) (λ f. Roomless (need (E.Source.list term.now.entries.now) (K.Source.list term.now.kept.now) term.now.nodes.now) (length term.now.nodes.now) types places numbers (derive_says f)) }
 {
-    let records = ask_records(entries, kept, terms, types)?;
-    if places < terms.len() {
+    let records = ask_records(term, types)?;
+    if places < term.nodes.len() {
         return Err(DeriveFault::NoPlaceRoom);
     }
-    ask_numbers(records, terms.len(), numbers)?;
+    ask_numbers(records, term.nodes.len(), numbers)?;
     Ok(records)
 }

@@ -13,10 +13,10 @@ pub returns-clause-answer : goal.returns-clause-answer
 returns-clause-answer g c =
     let w = c.work.ensures in
     rw c.ok_or.ensures.value
-    (derivation_answered _ _ _ (g.E.Source.lawful c.args.entries.now) (g.K.Source.lawful c.args.kept.now) c.work.new.places c.fill.new.self _ _ _ _ _ _ (omega (arith, c.work.auto.places, c.split_at_mut-own.ensures.front_len)) c.in_ok-records.ensures.holds (search rules) refl w.zeros c.work.result w.listing w.places)
+    (derivation_answered _ _ _ (g.E.Source.lawful c.args.term.now.entries.now) (g.K.Source.lawful c.args.term.now.kept.now) c.work.new.places c.fill.new.self _ _ _ _ _ _ (omega (arith, c.work.auto.places, c.split_at_mut-own.ensures.front_len)) c.in_ok-records.ensures.holds (search rules) refl w.zeros c.work.result w.listing w.places)
 
 pub returns-clause-nodes : goal.returns-clause-nodes
 returns-clause-nodes g c =
     let w = c.work.ensures in
     rw c.ok_or.ensures.value
-    (nodes_answered _ _ _ (g.E.Source.lawful c.args.entries.now) (g.K.Source.lawful c.args.kept.now) c.work.new.places c.fill.new.self c.args.places.now _ c.args.types.now _ c.args.numbers.now _ (omega (arith, c.work.auto.places, c.split_at_mut-own.ensures.front_len)) c.in_ok-records.ensures.holds (search rules) refl w.zeros c.work.result w.listing)
+    (nodes_answered _ _ _ (g.E.Source.lawful c.args.term.now.entries.now) (g.K.Source.lawful c.args.term.now.kept.now) c.work.new.places c.fill.new.self c.args.places.now _ c.args.types.now _ c.args.numbers.now _ (omega (arith, c.work.auto.places, c.split_at_mut-own.ensures.front_len)) c.in_ok-records.ensures.holds (search rules) refl w.zeros c.work.result w.listing)

@@ -13,4 +13,4 @@ pub returns-clause-answer : goal.returns-clause-answer
 returns-clause-answer g c =
     let q = c.in_ok-records.ensures in
     rw c.ok_or.ensures.value
-    (answered _ _ _ (g.E.Source.lawful c.args.entries.now) (g.K.Source.lawful c.args.kept.now) c.work.new.places _ _ _ _ c.work.result (omega (arith, c.work.auto.places)) q.serves c.work.ensures.listing c.work.ensures.zeros)
+    (answered _ _ _ (g.E.Source.lawful c.args.term.now.entries.now) (g.K.Source.lawful c.args.term.now.kept.now) c.work.new.places _ _ _ _ c.work.result (omega (arith, c.work.auto.places)) q.serves c.work.ensures.listing c.work.ensures.zeros)

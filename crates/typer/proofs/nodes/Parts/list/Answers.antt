@@ -28,7 +28,7 @@ narrow-requires g c =
     let ps = c.infer.new.places in
     let lt : length (take k ps) ≡ k = length-take-le k ps (omega (arith, c.infer.auto.places)) in
     let fits : c.in-Some.used ≤ length c.infer.new.memory = omega (arith, i.needed, c.infer.auto.memory) in
-    let long : length ps ≡ length c.args.terms.now = omega (arith, c.infer.auto.places) in
+    let long : length ps ≡ length c.args.term.now.nodes.now = omega (arith, c.infer.auto.places) in
     record {
       long = omega (arith, c.list_types.auto.roots);
       small = λ p h.
@@ -47,6 +47,6 @@ returns g c =
     let k = length c.args.places.now in
     let ps = c.infer.new.places in
     let fits : c.in-Some.used ≤ length c.infer.new.memory = omega (arith, i.needed, c.infer.auto.memory) in
-    let long : length ps ≡ length c.args.terms.now = omega (arith, c.infer.auto.places) in
+    let long : length ps ≡ length c.args.term.now.nodes.now = omega (arith, c.infer.auto.places) in
     let same : length c.narrow.new.places ≡ k = c.narrow.auto.places in
     nodes_listed _ _ _ ps _ _ fits long i k c.requires.nodes _ _ _ c.in-Ok.ensures c.requires.some (omega (arith, c.requires.records, c.infer.auto.memory, c.list_types.auto.memory)) c.narrow.new.places same (λ p h. c.narrow.ensures p (omega arith))
