@@ -12,7 +12,7 @@ use crate::fault::CheckFault;
 use crate::node_types::NodeTypes;
 use crate::steps::Derivation;
 use copy::Source;
-use term::TermNode;
+use infer::Term;
 use types::TypeNode;
 
 mod ends;
@@ -26,20 +26,18 @@ const NOTED: usize = 1024;
 
 // The first node without its typing step.
 fn judge<'a, E: Source, K: Source>(
-    entries: &'a E,
-    kept: &'a K,
-    terms: &'a [TermNode],
+    term: &Term<'a, E, K>,
     types: NodeTypes<'a>,
 ) -> Option<usize>
-    requires { length types.places.now ≡ length terms.now }
-    ensures { Judged (E.Source.list entries.now) (K.Source.list kept.now) terms.now (type_of types.entry) result }
+    requires { length types.places.now ≡ length term.now.nodes.now }
+    ensures { Judged (E.Source.list term.now.entries.now) (K.Source.list term.now.kept.now) term.now.nodes.now (type_of types.entry) result }
 {
     let mut sizes = [0usize; NOTED];
-    let noted = terms.len().min(NOTED);
+    let noted = term.nodes.len().min(NOTED);
     let derivation = Derivation {
-        entries,
-        kept,
-        term: Prefix::new(terms, &mut sizes[..noted]),
+        entries: term.entries,
+        kept: term.kept,
+        term: Prefix::new(term.nodes, &mut sizes[..noted]),
         types,
     };
     derivation.first_failing()
@@ -48,18 +46,16 @@ fn judge<'a, E: Source, K: Source>(
 // Whether a list of types, with a place in it for each term node, is a typing derivation: if each node's step is a typing
 // step. It reads only.
 pub fn check<E: Source, K: Source>(
-    entries: &E,
-    kept: &K,
-    terms: &[TermNode],
+    term: &Term<E, K>,
     list: &[TypeNode],
     places: &[u16],
 ) -> Result<(), CheckFault>
-    ensures answer { MatchResult result (λ _. Checked (E.Source.list entries.now) (K.Source.list kept.now) terms.now list.now places.now) (λ f. Refuses (E.Source.list entries.now) (K.Source.list kept.now) terms.now list.now places.now (says f)) }
+    ensures answer { MatchResult result (λ _. Checked (E.Source.list term.now.entries.now) (K.Source.list term.now.kept.now) term.now.nodes.now list.now places.now) (λ f. Refuses (E.Source.list term.now.entries.now) (K.Source.list term.now.kept.now) term.now.nodes.now list.now places.now (says f)) }
     ensures typings { StepsAreTypings }
 {
-    let types = NodeTypes::new(list, places, terms.len())?;
+    let types = NodeTypes::new(list, places, term.nodes.len())?;
     // A match, as a node that is found is the fault here, and none the success.
-    match judge(entries, kept, terms, types) {
+    match judge(term, types) {
         None => Ok(()),
         Some(at) => Err(CheckFault::Step(at)),
     }

@@ -6,6 +6,7 @@ ghost use Rattle.types.proofs.Tested.{passed_lawful};
 use super::*;
 use copy::nothing::Nothing;
 use refusal::{Layer, Refusal};
+use term::TermNode;
 use term::Symbol::{Abstraction, Application, Primitive, Reference, Variable};
 
 // Every list is that of the base with the code 0.
@@ -31,7 +32,12 @@ impl Source for Bases {
 
 // The check over the bases for primitives, and nothing for references.
 fn judged(terms: &[TermNode], list: &[TypeNode], places: &[u16]) -> Result<(), CheckFault> {
-    check(&Bases, &Nothing, terms, list, places)
+    let term = Term {
+        entries: &Bases,
+        kept: &Nothing,
+        nodes: terms,
+    };
+    check(&term, list, places)
 }
 
 #[test]

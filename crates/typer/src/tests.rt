@@ -1,6 +1,7 @@
 // Small terms, typed and derived: what the memories hold then, and which terms have no type.
 use super::*;
 use copy::nothing::Nothing;
+use term::TermNode;
 use term::Symbol::{self, Abstraction, Application, Variable};
 
 // What the memories held before.
@@ -18,17 +19,21 @@ fn nodes<const N: usize>(symbols: [Symbol; N]) -> [TermNode; N] {
     nodes
 }
 
+// A term that asks for no lists.
+fn alone(nodes: &[TermNode]) -> Term<'_, Nothing, Nothing> {
+    Term {
+        entries: &Nothing,
+        kept: &Nothing,
+        nodes,
+    }
+}
+
 // The reply in memories that held something.
 fn reply<const N: usize>(symbols: [Symbol; N]) -> Result<usize, TypesFault> {
     let mut types = [HELD; 10];
     let mut numbers = [7u32; 144];
-    type_term(
-        &Nothing,
-        &Nothing,
-        &nodes(symbols),
-        &mut types,
-        &mut numbers,
-    )
+    let nodes = nodes(symbols);
+    type_term(&alone(&nodes), &mut types, &mut numbers)
 }
 
 #[test]
@@ -38,12 +43,12 @@ fn identity_in_32_numbers(rt: HostRuntime) {
     let mut numbers = [7u32; 32];
     let terms = nodes([Abstraction, Variable(0)]);
     assert_eq!(rt;
-        type_term(&Nothing, &Nothing, &terms, &mut types, &mut short),
+        type_term(&alone(&terms), &mut types, &mut short),
         Err(TypesFault::NoNumberRoom)
     );
     assert_eq!(rt; short[30], 7);
     assert_eq!(rt;
-        type_term(&Nothing, &Nothing, &terms, &mut types, &mut numbers),
+        type_term(&alone(&terms), &mut types, &mut numbers),
         Ok(2)
     );
     assert_eq!(rt;
@@ -113,9 +118,7 @@ fn composition_is_derived(rt: HostRuntime) {
     assert_eq!(rt; reply(symbols), Ok(8));
     assert_eq!(rt;
         derive(
-            &Nothing,
-            &Nothing,
-            &terms,
+            &alone(&terms),
             &mut types,
             &mut places,
             &mut numbers,
@@ -136,9 +139,7 @@ fn places_are_asked_before_numbers(rt: HostRuntime) {
     let terms = nodes([Abstraction, Variable(0)]);
     assert_eq!(rt;
         derive(
-            &Nothing,
-            &Nothing,
-            &terms,
+            &alone(&terms),
             &mut types,
             &mut short,
             &mut numbers,
@@ -147,9 +148,7 @@ fn places_are_asked_before_numbers(rt: HostRuntime) {
     );
     assert_eq!(rt;
         derive(
-            &Nothing,
-            &Nothing,
-            &terms,
+            &alone(&terms),
             &mut types,
             &mut places,
             &mut numbers,

@@ -9,12 +9,12 @@ returns-in_err-records g c =
     let p = err_from_is_err_and c.from_residual.result c.from_residual.ensures.1 in
     rw (p.1, p.2) (not_derivable _ _ _ _ _ _ c.in_err-records.ensures)
 
-pub returns-then-places-terms : goal.returns-then-places-terms
-returns-then-places-terms g c = let q = c.in_ok-records.ensures in no_place_room q.1 c.if-places-terms.true
+pub returns-then-places-term : goal.returns-then-places-term
+returns-then-places-term g c = let q = c.in_ok-records.ensures in no_place_room q.1 c.if-places-term.true
 
 pub returns-in_err-ask_numbers : goal.returns-in_err-ask_numbers
 returns-in_err-ask_numbers g c =
     let p = err_from_is_err_and c.from_residual-in_err-ask_numbers.result c.from_residual-in_err-ask_numbers.ensures.1 in
     let q = c.in_ok-records.ensures in
     let e = c.in_err-ask_numbers.ensures in
-    rw (p.1, p.2, e.0) (no_number_room q.1 c.if-places-terms.false (omega (arith, q.0, e.1)))
+    rw (p.1, p.2, e.0) (no_number_room q.1 c.if-places-term.false (omega (arith, q.0, e.1)))
