@@ -1,5 +1,5 @@
 -- Where a question fails first in one list after another.
-use Rattle.std.proofs.Common.{◌≡◌, ℕ, List, [], ◌∷◌, ◌++◌, Some, None, Option, sym, refl, ap, ◌∙◌, subst, append_assoc, arith}
+use Rattle.std.proofs.Common.{◌≡◌, ℕ, List, [], ◌∷◌, ◌++◌, Some, None, Option, sym, refl, ap, ◌∙◌, append_assoc, arith}
 use Rattle.std.proofs.ByRecursion.{All-append}
 use Rattle.formula.specs.Firsts.{FirstNot, Fails}
 use Rattle.std.specs.Option.{option_or}

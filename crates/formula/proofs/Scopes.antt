@@ -1,5 +1,5 @@
 -- The innermost binder that bears a name, looked for outwards.
-use Rattle.std.proofs.Common.{◌≡◌, ℕ, suc, zero, ◌+◌, ◌<◌, ◌≤◌, List, [], ◌∷◌, length, get_or, arith}
+use Rattle.std.proofs.Common.{◌≡◌, ℕ, suc, zero, ◌+◌, ◌<◌, ◌≤◌, List, [], ◌∷◌, get_or, arith}
 use Prim.Native.Nat.{min}
 use Rattle.catalogue.specs.Names.{Name, Same}
 use Rattle.formula.specs.Names.{Bound}

@@ -1,5 +1,5 @@
 -- What the reader sees of the next token, in the words of the tokens that are left.
-use Rattle.std.proofs.Common.{◌≡◌, ℕ, ◌⊎◌, List, [], ◌∷◌, length, Some, None, Ok, Err, Option, sym, refl, ap, ◌∙◌, subst, inr, ⊎_elim, arith, Bor}
+use Rattle.std.proofs.Common.{◌≡◌, ℕ, List, [], ◌∷◌, length, Some, None, Ok, Err, Option, sym, refl, ap, ◌∙◌, subst, inr, arith, Bor}
 use Rattle.std.specs.Option.{ok_or}
 use Rattle.text.specs.Tokens.{Sign, Token, token, lambda, dot, closing, name, Rest}
 use Rattle.text.specs.Lexing.{Next, Found, sign_of}

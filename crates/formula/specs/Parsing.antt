@@ -4,7 +4,7 @@ use Rattle.catalogue.specs.Names.{Name}
 use Rattle.catalogue.specs.Entries.{Entry}
 use Rattle.std.specs.List.{AllByRecursion}
 use Rattle.grammar.specs.Grammar.{Tree, named, nodes, Kind, Is, FirstBad}
-use Rattle.grammar.specs.Machine.{Frames, State, start, binder, before_dot, after, Halts}
+use Rattle.grammar.specs.Machine.{Frames, State, start, binder, after, Halts}
 use Rattle.term.specs.declared.TermNode.{TermNode}
 use Rattle.term.specs.declared.Symbol.{Symbol}
 use Rattle.term.specs.Symbols.{node_of}

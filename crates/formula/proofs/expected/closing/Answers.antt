@@ -1,8 +1,6 @@
-use Rattle.std.proofs.Common.{◌≡◌, ◌∷◌, refl, ap, rules, inl, ⊎_elim}
+use Rattle.std.proofs.Common.{◌≡◌, rules, ⊎_elim}
 use Rattle.text.proofs.Exits.{exit_is}
 use Rattle.text.specs.declared.token.Token.TheVariants.{Close}
-use Rattle.text.specs.Lexing.{sign_of}
-use Rattle.formula.proofs.Signs.{closing_is}
 use Rattle.formula.proofs.expected.closing.Goals as goal
 
 pub returns-in_err-end : goal.returns-in_err-end

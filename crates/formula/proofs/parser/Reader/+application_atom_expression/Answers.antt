@@ -1,10 +1,9 @@
-use Rattle.std.proofs.Common.{Ok, refl, ap, subst, arith}
+use Rattle.std.proofs.Common.{Ok, ap, subst, arith}
 use Rattle.std.proofs.lemmas.Result.{MatchResult-weaker}
 use Rattle.text.proofs.Exits.{exit_is}
 use Rattle.text.specs.Lexing.{sign_of}
-use Rattle.text.proofs.Ahead.{next_advances}
 use Rattle.grammar.specs.Machine.{start, after}
-use Rattle.formula.specs.Parsing.{Follows, Headed}
+use Rattle.formula.specs.Parsing.{Follows}
 use Rattle.formula.proofs.Signs.{start_stuck, after_stuck}
 use Rattle.formula.proofs.Tokens.{reads_sign, blames_here, not_lambda, not_close, nothing_starts, nothing_follows}
 use Rattle.formula.proofs.Writing.{part_end, written_end}

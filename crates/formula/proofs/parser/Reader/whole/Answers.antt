@@ -1,4 +1,3 @@
-use Rattle.std.proofs.Common.{zero-le, arith}
 use Rattle.text.proofs.Exits.{exit_is}
 use Rattle.text.proofs.Ahead.{rest_refused}
 use Rattle.formula.proofs.Wholes.{not_parsed, parsed, over_closed}
