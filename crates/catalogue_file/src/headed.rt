@@ -38,6 +38,7 @@ impl<'a> HeadedFile<'a> {
             (λ file. file.headed ≡ self.entry)
             (λ f. Refuses self.entry.sized.layout self.entry.sized.bytes.now (says f)) }
     {
+        // A `for`, since where an entry is due hangs on the one before it.
         let count = self.sized.count();
         let mut due = self.sized.pair_start(count);
         for k in 0..count {

@@ -44,7 +44,7 @@ impl<'a> LaidFile<'a> {
         requires { let f = self.now.headed.sized in (k : ℕ) → k < count f.layout f.bytes.now → F.pre holds k }
         ensures { let f = self.now.headed.sized in Answered (F.post holds) (count f.layout f.bytes.now) result }
     {
-        // A `find` would need the closure's contract written out.
+        // A `for` is plainer: a `find` needs a closure around `holds`, with a contract of its own.
         for k in 0..self.headed.sized.count() {
             if !holds(k) {
                 return Some(k);

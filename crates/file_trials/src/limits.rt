@@ -4,6 +4,7 @@ use catalogue::interface::Catalogue;
 use catalogue_file::fault::FileFault;
 use catalogue_file::opening::open_file;
 use std::alloc::{AllocError, Global};
+use std::process::Abort;
 use std::test::Fail;
 use types::TypeNode;
 
@@ -19,7 +20,7 @@ fn many(heap: Global, count: u16) -> Result<Vec<u8>, AllocError> {
 
 // The answer to a file of two entries, the second with this name and these nodes.
 fn second(
-    rt: &HostRuntime,
+    rt: &(impl Abort + AllocGlobal),
     name: &[u8],
     nodes: &[TypeNode],
     answer: Option<FileFault>,
@@ -32,7 +33,7 @@ fn second(
 }
 
 // A file of one entry that is refused for its form.
-fn broken(rt: &HostRuntime, entry: &[u8]) -> Result<(), Fail> {
+fn broken(rt: &(impl Abort + AllocGlobal), entry: &[u8]) -> Result<(), Fail> {
     let mut draft = Draft::new(rt.alloc());
     draft.add_bytes(entry)?;
     assert_eq!(rt; draft.fault(rt.alloc())?, Some(FileFault::Malformed(0)));
@@ -41,7 +42,7 @@ fn broken(rt: &HostRuntime, entry: &[u8]) -> Result<(), Fail> {
 
 // A file of so many entries, and its answer.
 fn counted(
-    rt: &HostRuntime,
+    rt: &(impl Abort + AllocGlobal),
     count: u16,
     answer: Option<FileFault>,
     entries: u16,
@@ -111,7 +112,12 @@ fn nodes(rt: HostRuntime) -> Result<(), Fail> {
     second(&rt, b"x", &hours[0..64], None)?;
     second(&rt, b"x", &hours, malformed)?;
     second(&rt, b"x", &[], malformed)?;
-    second(&rt, b"x", &[TypeNode::arrow(1, 0), TypeNode::base(0)], unlawful)?;
+    second(
+        &rt,
+        b"x",
+        &[TypeNode::arrow(1, 0), TypeNode::base(0)],
+        unlawful,
+    )?;
     second(&rt, b"x", &[TypeNode::base(6)], unlawful)
 }
 
@@ -120,10 +126,7 @@ fn nodes(rt: HostRuntime) -> Result<(), Fail> {
 fn broken_entries(rt: HostRuntime) -> Result<(), Fail> {
     broken(&rt, b"")?;
     broken(&rt, b"\x08x\x01\x00\x00\x00\x00")?;
-    broken(
-        &rt,
-        b"\x01x\x01\x00\x00\x00\x00\x01\x00\x00\x00",
-    )
+    broken(&rt, b"\x01x\x01\x00\x00\x00\x00\x01\x00\x00\x00")
 }
 
 // A repeated name, then unlawful nodes behind it, then an entry that is no name and nodes behind these.

@@ -3,7 +3,7 @@
 // the argument.
 #![tactic(auto)]
 
-use anyhow::anyhow;
+use anyhow::Context;
 use catalogue::interface::Catalogue;
 use catalogue_file::file::FileCatalogue;
 use catalogue_file::opening::open_file;
@@ -20,9 +20,7 @@ const MOST_BYTES: u64 = 65536;
 fn load(rt: &HostRuntime) -> anyhow::Result<Vec<u8>> {
     let mut words = env::args(rt)?;
     let _program = words.next();
-    let Some(path) = words.next() else {
-        return Err(anyhow!("no path of a catalogue file"));
-    };
+    let path = words.next().context("no path of a catalogue file")?;
     let mut bytes = Vec::new(rt.alloc());
     let _ = fs::open(rt, path.as_str())?
         .take(MOST_BYTES)
