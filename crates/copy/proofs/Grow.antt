@@ -20,12 +20,6 @@ pub upd_below : (v : ℕ → Ty) (a : ℕ) (α : Ty) → Agree a (upd v a α) v
 unfolding upd
 upd_below v a α k h = cond-false (eqb k a) α (v k) (ne_eqb k a (omega arith))
 
-pub agree_less : (m n : ℕ) (w v : ℕ → Ty) → m ≤ n → Agree n w v → Agree m w v
-agree_less m n w v h ag k l = ag k (omega arith)
-
-pub agree_then : (n : ℕ) (u w v : ℕ → Ty) → Agree n u w → Agree n w v → Agree n u v
-agree_then n u w v p q k l = p k l ∙ q k l
-
 pub says_agree : (n i : ℕ) (x : Node) (v w : ℕ → Ty) → Inside n i x → i < n → Agree n w v → Says v i x → Says w i x
 says_agree n i Var v w b h ag s = tt
 says_agree n i (Base k) v w b h ag s = ag i h ∙ s

@@ -1,6 +1,6 @@
 -- Records in a lent memory, read as the nodes of a graph.
 use Rattle.std.proofs.Common.{◌≡◌, ℕ, zero, suc, ◌+◌, ◌<◌, ◌≤◌, List, [], ◌∷◌, ◌++◌, map, length, get_or, take, set, sym, refl, ap, ◌∙◌, subst, arith}
-use Rattle.std.proofs.lemmas.List.{length-map, length-take, take_more_set, map-append, map-set, take_at}
+use Rattle.std.proofs.lemmas.List.{length-map, length-take, take_more_set, map-append, map-set}
 use Rattle.std.proofs.Math.ListN.{get_or-map}
 use Rattle.types.specs.Types.{Ty}
 use Rattle.types.specs.Lists.{node, zero_node}
@@ -61,7 +61,3 @@ link_says v ts i next h s e = says_at v (map view ts) i (Link next) s (omega (ar
 
 pub alive_still : (ts us : List TypeNode) (i : ℕ) → Still (map view ts) (map view us) → alive (view (get_or ts i zero_node)) ≡ 1 → alive (view (get_or us i zero_node)) ≡ 1
 alive_still ts us i still e = ap alive (sym (node_at us i)) ∙ still i ∙ ap alive (node_at ts i) ∙ e
-
--- where the first n records were lent out
-pub graph_front : (us ts : List TypeNode) (n : ℕ) → length us ≡ n → graph (us ++ ts) n ≡ map view us
-graph_front us ts n e = ap (map view) (take_at us ts n e)

@@ -163,9 +163,6 @@ merged_flip ns ms x y (Ok None) m = kept_flip ns ms x y Always m
 merged_flip ns ms x y (Ok (Some z)) m = record { kept = kept_flip ns ms x y (λ v. Alike z.left.0 z.left.1 v × Alike z.right.0 z.right.1 v) m.kept; falls = m.falls; first = m.first; second = m.second }
 merged_flip ns ms x y (Err c) m = λ v s e. m v s (sym e)
 
-pub merged_none : (ns : List Node) (a b x y : ℕ) → Sound ns → x ≡ y → ((v : ℕ → Ty) → Solves v ns → v a ≡ v x) → ((v : ℕ → Ty) → Solves v ns → v b ≡ v y) → Merged ns ns a b (Ok None)
-merged_none ns a b x y sound e p q = record { sound = sound; fewer = omega arith; onto = λ v s _. (s, tt); back = λ v s _. (s, p v s ∙ ap v e ∙ sym (q v s)) }
-
 -- a merge after what keeps all solutions
 pub merged_then : (ns ms os : List Node) (a b : ℕ) (r : Result (Option Parts) Clash) → length ms ≡ length ns → Kept ns ms Always Always → Merged ms os a b r → Merged ns os a b r
 merged_then ns ms os a b (Ok None) e p q = kept_then ns ms os (Alike a b) Always p q
@@ -175,9 +172,6 @@ merged_then ns ms os a b (Ok (Some z)) e p q =
 
 -- after the first pair, the second
 module _ (ns ms os : List Node) (a b l m r s : ℕ) (x : Reduced ns ms a b l m r s) where
-  pub unified_first : (c : Clash) → Unified ms os l m (Err c) → Unified ns os a b (Err c)
-  unified_first c y = λ v g e. (let h = x.kept.onto v g e in y v h.0 h.1.0)
-
   pub unified_second : (ps : List Node) (u : Unit) (t : Result Unit Clash) → Unified ms os l m (Ok u) → Unified os ps r s t → Unified ns ps a b t
   unified_second ps u (Ok w) y z =
       record {

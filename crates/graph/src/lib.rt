@@ -8,6 +8,7 @@ ghost use Rattle.graph.specs.Unifying.{compared, Merged, Unified};
 ghost use Rattle.types.specs.Lists.{zero_node};
 ghost use Rattle.types.specs.Types.{Ty};
 
+use std::cmp::Ordering;
 use types::{BASE, TypeNode, VARIABLE};
 
 // What a record of the memory says: a variable, a base by its code, a branch of some kind with the places of its two
@@ -150,12 +151,10 @@ fn join(nodes: &mut [TypeNode], a: u16, b: u16) -> Result<Option<Parts>, Clash>
 {
     let x = find_root(nodes, a);
     let y = find_root(nodes, b);
-    if x < y {
-        merge(nodes, x, y)
-    } else if y < x {
-        merge(nodes, y, x)
-    } else {
-        Ok(None)
+    match x.cmp(&y) {
+        Ordering::Less => merge(nodes, x, y),
+        Ordering::Equal => Ok(None),
+        Ordering::Greater => merge(nodes, y, x),
     }
 }
 

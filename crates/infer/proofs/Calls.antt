@@ -36,9 +36,6 @@ module _ (ns n1 n2 : List Node) (g y r h : ℕ) (sound : Sound ns) (hg : g < len
   sound1 : Sound n1
   sound1 = pushed_sound ns n1 Var e1 sound tt
 
-  pub call_sound : Sound n2
-  call_sound = pushed_sound n1 n2 (Branch 2 y r) e2 sound1 (omega (arith, pushed_length ns n1 Var e1))
-
   call_onto : (v : ℕ → Ty) (τ : Ty) → Solves v ns → OfCall g y v τ → (w : ℕ → Ty) × Agree (length ns) w v × Solves w n2 × (w g ≡ w h) × (w r ≡ τ)
   call_onto v τ s t =
       let l1 = pushed_length ns n1 Var e1 in

@@ -185,9 +185,6 @@ module _ (E K : Lists) (ts : List TermNode) (i : ℕ) (s : Scope) (ps : List ℕ
         }
 
     module _ (s1 : Scope) (qs : List ℕ) (g1 : Graph) (f : Found) (p : Finds E K ts (i + 1) s s1 ps qs g g1 f) where
-      pub argument_scoped : Scoped (held s1) g1.used
-      argument_scoped = subst (λ (q : List ℕ). Scoped q g1.used) (sym p.scope) (λ k h. let x = scoped k h in omega (arith, p.longer))
-
       -- the argument begins where the function ends
       function : (t : Term) (o : Opens ts i t (Some Application)) → Typed E K (nodes g) (nodes g1) (held s) qs (i + 1) o.0 × Stands ts f.next o.1 × (f.next ≡ i + 1 + size o.0)
       function t o = let b = p.typed o.0 o.3 in (b.1, subst (λ (j : ℕ). Stands ts j o.1) (sym b.0) o.4, b.0)
@@ -211,12 +208,6 @@ module _ (E K : Lists) (ts : List TermNode) (i : ℕ) (s : Scope) (ps : List ℕ
         -- the nodes of the function and of the argument
         function_node : f.node ≡ get_or rs (i + 1) 0
         function_node = p.node ∙ sym (q.older (i + 1) (omega (arith, p.forward)))
-
-        pub function_inside : f.node < g2.used
-        function_inside = rw p.node (let y = p.inside (i + 1) (omega arith) p.forward in omega (arith, q.longer))
-
-        pub argument_inside : x.node < g2.used
-        argument_inside = rw q.node (q.inside f.next (omega arith) q.forward)
 
         argument : (t : Term) (o : Opens ts i t (Some Application)) → (x.next ≡ i + 1 + size o.0 + size o.1) × Typed E K (nodes g1) (nodes g2) (held s) rs (i + 1 + size o.0) o.1 × ((j : ℕ) → j < i + 1 + size o.0 → get_or rs j 0 ≡ get_or qs j 0)
         argument t o =

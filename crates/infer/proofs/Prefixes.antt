@@ -1,6 +1,6 @@
 -- Which term stands at a place, by the node there.
-use Rattle.std.proofs.Common.{◌≡◌, ℕ, ◌+◌, ◌<◌, Option, Some, None, List, ◌∷◌, ◌++◌, length, get_or, take, drop, set, sym, refl, ap, ◌∙◌, subst, append_assoc, arith}
-use Rattle.std.proofs.lemmas.List.{drop_more, drop-drop, drop_at, length-drop, take-take, take-set}
+use Rattle.std.proofs.Common.{◌≡◌, ℕ, ◌+◌, ◌<◌, Option, Some, None, List, ◌∷◌, ◌++◌, length, get_or, drop, sym, refl, ap, ◌∙◌, subst, append_assoc, arith}
+use Rattle.std.proofs.lemmas.List.{drop_more, drop-drop, drop_at, length-drop}
 use Rattle.term.specs.Terms.{Term, variable, abstraction, application, primitive, reference, prefix, zero_node}
 use Rattle.term.specs.declared.TermNode.{TermNode}
 use Rattle.term.specs.Symbols.{symbol_of}
@@ -62,7 +62,3 @@ module _ (ts : List TermNode) (i : ℕ) where
   stands_within (application f x) s = (drop_front ts i _ _ s.1).0
   stands_within (primitive k) s = (drop_front ts i _ _ s.1).0
   stands_within (reference k) s = (drop_front ts i _ _ s.1).0
-
--- the scope below a binder stays when the scope with it does
-pub scope_less : (zs ns : List ℕ) (d a : ℕ) → take (d + 1) zs ≡ take (d + 1) (set ns d a) → take d zs ≡ take d ns
-scope_less zs ns d a e = sym (take-take d (d + 1) zs (omega arith)) ∙ ap (take d) e ∙ take-take d (d + 1) (set ns d a) (omega arith) ∙ take-set ns d a

@@ -1,51 +1,25 @@
 // Small terms, run: what is recorded, and which nodes are refused.
-ghost use Rattle.std.specs.Prelude.{[]};
-ghost use Rattle.std.proofs.Common.{lt_irrefl};
-
-use copy::Source;
+use copy::nothing::Nothing;
 use infer::{infer, needed};
-use term::TermNode;
-use types::{ARROW, TypeNode, VARIABLE};
+use term::{Symbol, TermNode};
+use types::TypeNode;
 
-const UNKNOWN: TypeNode = TypeNode {
-    kind: VARIABLE,
-    left: 0,
-    right: 0,
-};
+const LAMBDA: Symbol = Symbol::Abstraction;
 
-// No lists at all.
-struct Nothing;
+const APPLY: Symbol = Symbol::Application;
 
-impl Source for Nothing {
-    ghost list = { λ _ _. [] };
-
-    ghost lawful = { λ _ _ h. absurd (lt_irrefl 0 h) };
-
-    fn nodes(&self, _k: u16) -> u16 {
-        0
-    }
-
-    fn node(&self, _k: u16, _i: u16) -> TypeNode {
-        UNKNOWN
-    }
-}
-
-const LAMBDA: TermNode = TermNode { kind: 1, number: 0 };
-
-const APPLY: TermNode = TermNode { kind: 2, number: 0 };
-
-const INNERMOST: TermNode = TermNode { kind: 0, number: 0 };
+const INNERMOST: Symbol = Symbol::Variable(0);
 
 #[test]
 fn identity_is_an_arrow_of_its_binder(rt: HostRuntime) {
     let mut binders = [0u32; 2];
     let mut places = [0u32; 2];
     let mut seen = [0u32; 2];
-    let mut memory = [UNKNOWN; 2];
+    let mut memory = [TypeNode::default(); 2];
     let used = infer(
         &Nothing,
         &Nothing,
-        &[LAMBDA, INNERMOST],
+        &[LAMBDA, INNERMOST].map(TermNode::from),
         &mut binders,
         &mut places,
         &mut seen,
@@ -53,14 +27,7 @@ fn identity_is_an_arrow_of_its_binder(rt: HostRuntime) {
     );
     assert_eq!(rt; used, Some(2));
     assert_eq!(rt; places, [1, 0]);
-    assert_eq!(rt;
-        memory[1],
-        TypeNode {
-            kind: ARROW,
-            left: 0,
-            right: 0,
-        }
-    );
+    assert_eq!(rt; memory[1], TypeNode::arrow(0, 0));
 }
 
 #[test]
@@ -68,11 +35,11 @@ fn nodes_behind_a_term_are_refused(rt: HostRuntime) {
     let mut binders = [0u32; 3];
     let mut places = [0u32; 3];
     let mut seen = [0u32; 2];
-    let mut memory = [UNKNOWN; 2];
+    let mut memory = [TypeNode::default(); 2];
     let used = infer(
         &Nothing,
         &Nothing,
-        &[LAMBDA, INNERMOST, INNERMOST],
+        &[LAMBDA, INNERMOST, INNERMOST].map(TermNode::from),
         &mut binders,
         &mut places,
         &mut seen,
@@ -87,7 +54,7 @@ fn need_is_two_for_each_abstraction_and_application(rt: HostRuntime) {
         needed(
             &Nothing,
             &Nothing,
-            &[APPLY, LAMBDA, INNERMOST, LAMBDA, INNERMOST],
+            &[APPLY, LAMBDA, INNERMOST, LAMBDA, INNERMOST].map(TermNode::from),
         ),
         6
     );

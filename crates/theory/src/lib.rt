@@ -7,46 +7,38 @@ ghost use Rattle.theory.specs.Laws.{TypesOfRows, TypesOfExpansions, PrincipalOfE
 ghost use Rattle.theory.specs.Laws.{PrincipalIsOne, PrincipalRenamed, PrincipalIsProper, PrincipalIsSimple, NormalIsPrincipal, NormalIsKept};
 
 // What types of terms depend on.
-pub fn types_stand() -> u8
+pub fn types_stand()
     ensures typings { TypingsGiveTypes }
     ensures closed { TypedIsClosed }
     ensures whole { TypedIsWhole }
     ensures instances { TypesHaveInstances }
     ensures binders { OuterBindersIdle }
     ensures rows { LaterRowsIdle }
-{
-    0
-}
+{}
 
 // Expansions are closed and without references, and stay when rows are added.
-pub fn expansions_stand() -> u8
+pub fn expansions_stand()
     ensures closed { ExpansionsClosed }
     ensures whole { ExpansionsWhole }
     ensures last { ExpansionsLast }
-{
-    0
-}
+{}
 
 // Kept types stand for the expansions of their rows.
-pub fn types_of_expansions_stand() -> u8
+pub fn types_of_expansions_stand()
     ensures rows { TypesOfRows }
     ensures types { TypesOfExpansions }
     ensures principal { PrincipalOfExpansions }
     ensures typeless { TypelessExpansions }
     ensures grows { KeptGrows }
     ensures shrinks { KeptShrinks }
-{
-    0
-}
+{}
 
 // A term has one principal type up to the numbers of its variables, and its normal list may be kept.
-pub fn principal_types_stand() -> u8
+pub fn principal_types_stand()
     ensures one { PrincipalIsOne }
     ensures renamed { PrincipalRenamed }
     ensures proper { PrincipalIsProper }
     ensures simple { PrincipalIsSimple }
     ensures normal { NormalIsPrincipal }
     ensures kept { NormalIsKept }
-{
-    0
-}
+{}
