@@ -7,7 +7,7 @@ ghost use Rattle.walk.specs.Listing.{Columns, Narrow};
 ghost use Rattle.walk.specs.Lent.{nodes, held, SameMemories, Running};
 
 use crate::walking::Walk;
-use types::TypeNode;
+use types::{TypeNode, VARIABLE};
 
 // The number in a part's record: a variable has the next number, any other part what its key says.
 fn number_of(key: TypeNode, variables: &mut u32) -> u32
@@ -15,7 +15,7 @@ fn number_of(key: TypeNode, variables: &mut u32) -> u32
     ensures value { result ≡ (if nat_eq key.kind 0 then variables.old else key.left) }
     ensures count { variables.new ≡ variables.old + (if nat_eq key.kind 0 then 1 else 0) }
 {
-    if key.kind == 0 {
+    if key.kind == VARIABLE {
         let number = *variables;
         *variables = number + 1;
         number

@@ -229,7 +229,7 @@ impl<'a> Walk<'a> {
     }
 
     // Lists the types of all nodes, behind what is listed.
-    pub fn list_rest(&mut self) -> Result<u32, Looped>
+    pub fn list_rest(&mut self) -> Result<(), Looped>
         requires running { Running self.old }
         requires shut { Shut self.old.marks.now }
         ensures same { SameMemories self.old self.new }
@@ -238,6 +238,6 @@ impl<'a> Walk<'a> {
         for at in 0..self.graph.len() {
             self.walk(at as u16)?;
         }
-        Ok(self.count)
+        Ok(())
     }
 }
