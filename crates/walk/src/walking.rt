@@ -36,7 +36,7 @@ impl From<Mark> for u32 {
 
 // A graph, and in lent memories what a walk has found: a mark for each class, by the node that stands for it; for each
 // place the node that first had the type there; the chains of the places, by the keys of their types; and how many
-// places there are.
+// places there are. The chains are no struct in this one: what that would have written is not known once this is dropped.
 #[derive(Drop)]
 pub struct Walk<'a> {
     pub graph: &'a [TypeNode],
