@@ -8,12 +8,9 @@ use denote.Param.Members.{Mut}
 use denote.Ref.{Bor}
 use Rattle.std.proofs.lemmas.Bool.{cases_lt, cases_eq}
 use Rattle.types.specs.declared.TypeNode.{TypeNode}
-use Rattle.types.specs.Types.{Ty}
 use Rattle.types.specs.Lists.{node}
-use Rattle.graph.specs.declared.Node.{Node}
 use Rattle.walk.specs.declared.places.Chain.{Chain}
 use Rattle.walk.specs.Table.{Table, bucket, Falls, Goes}
-use Rattle.walk.specs.Work.{Work, key_of, part, State, Origin}
 
 -- of the first n places, those from at on are searched for x, and the next is at - 1
 pub record Seek (key : ℕ → TypeNode) (m n : ℕ) (x : TypeNode) (at : ℕ) : Type 0 where
@@ -109,19 +106,6 @@ module _ (key : ℕ → TypeNode) (n : ℕ) (heads nexts : List ℕ) (x : TypeNo
         by (Some p) st l =
             let lt : p < n = omega (arith, v.0.low, st.1.0) in
             (lt, hit p l.0 lt (subst (λ z. CalledAt g z p true l.0) v.1 l.1))
-
-module _ (ns : List Node) (w : Work) (ps : List Ty) (s : State ns w ps) where
-  -- a key is worked out at the place's origin
-  pub key_there : (p : ℕ) (y : TypeNode) → p < w.count → y ≡ key_of ps (part ps (get_or w.marks (get_or w.origins p 0) 0 - 2)) → y ≡ key_of ps (part ps p)
-  key_there p y h e =
-      let m : get_or w.marks (get_or w.origins p 0) 0 - 2 ≡ p = omega (arith, (s.made p h).mark) in
-      e ∙ ap (λ (i : ℕ). key_of ps (part ps i)) m
-
-  pub origin_there : (p : ℕ) → p < w.count → Origin ns w.marks (get_or w.origins p 0) (get_or w.marks (get_or w.origins p 0) 0 - 2)
-  origin_there p h =
-      let o = s.made p h in
-      let m : p ≡ get_or w.marks (get_or w.origins p 0) 0 - 2 = omega (arith, o.mark) in
-      subst (Origin ns w.marks (get_or w.origins p 0)) m o
 
 pub same_node : (x y : TypeNode) → x.kind ≡ y.kind → x.left ≡ y.left → x.right ≡ y.right → x ≡ y
 same_node x y e f g = ap (λ (k : ℕ). node k x.left x.right) e ∙ ap₂ (node y.kind) f g

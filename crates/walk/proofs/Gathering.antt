@@ -61,12 +61,6 @@ variables_take ps p h = omega (arith, variables_le (take p ps), length-take-le p
 
 -- ---- columns
 
-pub columns_none : (ps : List Ty) (ks ls rs : List ℕ) → Columns ps 0 ks ls rs
-columns_none ps ks ls rs = record { row = λ p h. absurd (omega arith) }
-
-pub narrow_none : (ks ls rs : List ℕ) → Narrow 0 ks ls rs
-narrow_none ks ls rs = record { kind = λ p h. absurd (omega arith); left = λ p h. absurd (omega arith); right = λ p h. absurd (omega arith) }
-
 module _ (ks ls rs : List ℕ) (p : ℕ) (hk : p < length ks) (hl : p < length ls) (hr : p < length rs) (k l r : ℕ) where
   pub columns_more : (ps : List Ty) → node k l r ≡ get_or (records ps) p zero_node → Columns ps p ks ls rs → Columns ps (p + 1) (set ks p k) (set ls p l) (set rs p r)
   columns_more ps e c =

@@ -16,9 +16,6 @@ nodes_at [] i = refl
 nodes_at (t ∷ ts) zero = refl
 nodes_at (t ∷ ts) (suc i) = nodes_at ts i
 
-pub root_at : (ts : List TypeNode) (i : ℕ) (x : Node) → x ≡ view (get_or ts i zero_node) → target i x ≡ root (map view ts) i
-root_at ts i x e = ap (target i) (e ∙ sym (nodes_at ts i))
-
 -- ---- reading
 
 -- what a type is that node i reads as, by the node
@@ -100,9 +97,6 @@ root_alive ns i = go (get_or ns i Var)
     go (Base c) e = refl
     go (Branch k l r) e = refl
     go (Link j) e = absurd (omega arith)
-
-pub not_link : (ns : List Node) (i j : ℕ) → alive (get_or ns i Var) ≡ 1 → get_or ns i Var ≡ Link j → ⊥
-not_link ns i j a e = omega (arith, sym (ap alive e) ∙ a)
 
 -- the node that stands for the class of `at` is in the graph, and is no link
 pub root_within : (ts : List TypeNode) (at i : ℕ) → Flat (map view ts) → at < length ts → i ≡ root (map view ts) at → (i < length ts) × (alive (get_or (map view ts) i Var) ≡ 1)

@@ -16,7 +16,7 @@ use Rattle.walk.specs.Work.{Work, work, key_of, State, Room, Complete, Walked, A
 use Rattle.walk.specs.declared.walking.Walk.{Walk}
 use Rattle.walk.specs.Lent.{nodes, held, SameMemories, Running}
 use Rattle.walk.proofs.Graphs.{nodes_at, root_within}
-use Rattle.walk.proofs.Steps.{opening, opened, room_opened, walked_leaf, walked_branch, room_walked, complete_walked, still_open, above_part, above_grown, smaller_left, smaller_right}
+use Rattle.walk.proofs.Steps.{zeros_set, opening, opened, room_opened, walked_leaf, walked_branch, room_walked, complete_walked, still_open, above_part, above_grown, smaller_left, smaller_right}
 
 pub nodes_long : (k : Walk) → length (nodes k) ≡ length k.graph.now
 nodes_long k = length-map k.graph.now view
@@ -53,8 +53,8 @@ pub walked_as : (k k' : Walk) (w : Work) {at p : ℕ} → k'.graph ≡ k.graph �
 walked_as k k' w {at} {p} e x = subst (λ (ns : List Node). Walked ns (held k') w at p) (nodes_same k k' e) x
 
 -- the walk may go on after a node is listed
-pub running_walked : (k k' : Walk) (at p : ℕ) → Running k → SameMemories k k' → Walked (nodes k) (held k) (held k') at p → Running k'
-running_walked k k' at p run same x =
+pub running_walked : {k k' : Walk} {at p : ℕ} → Running k → SameMemories k k' → Walked (nodes k) (held k) (held k') at p → Running k'
+running_walked {k} {k'} {at} {p} run same x =
     let n = sym (nodes_same k k' same.graph) in
     let e = x.exact run.state.0 run.state.1 in
     let ps = firsts run.state.0 (postorder e.type) in
@@ -67,7 +67,7 @@ running_walked k k' at p run same x =
     }
 
 -- the node i, which stands for the class of `at`, was not entered, and is now open
-module _ (k : Walk) (run : Running k) (at i x : ℕ) (h : at < length k.graph.now) (is : i ≡ root (nodes k) at) (new : 0 ≡ get_or k.marks.now i 0) (one : x ≡ 1) where
+module _ {k : Walk} (run : Running k) {at i x : ℕ} (h : at < length k.graph.now) (is : i ≡ root (nodes k) at) (new : 0 ≡ get_or k.marks.now i 0) (one : x ≡ 1) where
   abbrev entered : Work
   entered = work (set k.marks.now i x) k.origins.now k.heads.now k.nexts.now k.count
 
@@ -82,6 +82,9 @@ module _ (k : Walk) (run : Running k) (at i x : ℕ) (h : at < length k.graph.no
 
   room : Room (length k.graph.now) (opening (held k) i) × (k.count + zeros (set k.marks.now i 1) < length k.graph.now)
   room = room_opened (nodes k) (held k) i marked (sym new) (length k.graph.now) run.room
+
+  pub fewer_left : zeros (set k.marks.now i x) < zeros k.marks.now
+  fewer_left = omega (arith, zeros_set k.marks.now i x (omega arith) marked (sym new))
 
   -- there is a place for the node's type
   pub place_left : k.count < length k.graph.now
@@ -104,7 +107,7 @@ module _ (k : Walk) (run : Running k) (at i x : ℕ) (h : at < length k.graph.no
   leaf_listed w' p t key key' e cl reads leaf =
       walked_leaf (nodes k) run.flat (held k) w' at i p t key is marked (sym new) (subst (λ (y : TypeNode). Closed (nodes k) (opening (held k) i) w' i y p) e (subst (λ (v : Work). Closed (nodes k) v w' i key' p) entered_is cl)) reads leaf
 
-  module _ (kind l r : ℕ) (branch : Branch kind l r ≡ view (get_or k.graph.now i zero_node)) where
+  module _ {kind l r : ℕ} (branch : Branch kind l r ≡ view (get_or k.graph.now i zero_node)) where
     is_branch : get_or (nodes k) i Var ≡ Branch kind l r
     is_branch = nodes_at k.graph.now i ∙ sym branch
 
@@ -120,14 +123,14 @@ module _ (k : Walk) (run : Running k) (at i x : ℕ) (h : at < length k.graph.no
     left_below = above l (smaller_left (nodes k) run.flat i kind l r (omega (arith, inside, nodes_long k)) is_branch)
 
     -- the left part is walked
-    module _ (k₂ : Walk) (g : k₂.graph ≡ k.graph) (left : ℕ) (xl : Walked (nodes k) entered (held k₂) l left) where
+    module _ (k₂ : Walk) (g : k₂.graph ≡ k.graph) {left : ℕ} (xl : Walked (nodes k) entered (held k₂) l left) where
       pub right_below : Above (nodes k) k.marks.now at → Above (nodes k₂) k₂.marks.now r
       right_below a =
           subst (λ (ns : List Node). Above ns k₂.marks.now r) (sym (nodes_same k k₂ g))
           (above_grown (nodes k) run.flat (set k.marks.now i x) k₂.marks.now r xl.grown (above r (smaller_right (nodes k) run.flat i kind l r (omega (arith, inside, nodes_long k)) is_branch) a))
 
       -- and so is the right one
-      module _ (k₃ : Walk) (same : SameMemories k₂ k₃) (long : length k₂.marks.now ≡ length k.marks.now) (right : ℕ) (xr : Walked (nodes k₂) (held k₂) (held k₃) r right) where
+      module _ {k₃ : Walk} (same : SameMemories k₂ k₃) (long : length k₂.marks.now ≡ length k.marks.now) {right : ℕ} (xr : Walked (nodes k₂) (held k₂) (held k₃) r right) where
         left_walked : Walked (nodes k) (opening (held k) i) (held k₂) l left
         left_walked = subst (λ (v : Work). Walked (nodes k) v (held k₂) l left) entered_is xl
 

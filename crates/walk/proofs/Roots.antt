@@ -29,9 +29,6 @@ nothing_above ns ms at s f = f (λ k h e. absurd (s k e))
 firsts_push : (ps ts : List Ty) (t : Ty) → firsts ps (postorders (ts ++ (t ∷ []))) ≡ firsts (firsts ps (postorders ts)) (postorder t)
 firsts_push ps ts t = ap (firsts ps) (postorders_append ts (t ∷ []) ∙ ap (λ (l : List Ty). postorders ts ++ l) (append-nil (postorder t))) ∙ firsts_append ps (postorders ts) (postorder t)
 
-pub sofar_none : (ns : List Node) (w : Work) (r : ℕ → ℕ) (ps : List Ty) → State ns w ps → Sofar ns w r ps 0
-sofar_none ns w r ps s = record { types = []; long = refl; reads = λ k h. absurd (omega arith); state = s }
-
 module _ (ns : List Node) (w w' : Work) (r : ℕ → ℕ) (ps : List Ty) (i p : ℕ) (s : Sofar ns w r ps i) (x : Walked ns w w' (r i) p) where
   pub sofar_more : Sofar ns w' r ps (i + 1)
   sofar_more =
@@ -86,6 +83,3 @@ rooted ns w rs qs i e s placed shut room =
 -- the room for as many nodes as the memory has records
 pub room_nodes : (ts : List TypeNode) (w : Work) → Room (length ts) w → Room (length (map view ts)) w
 room_nodes ts w r = subst (λ (n : ℕ). Room n w) (sym (length-map ts view)) r
-
-pub room_records : (ts : List TypeNode) (w : Work) → Room (length (map view ts)) w → Room (length ts) w
-room_records ts w r = subst (λ (n : ℕ). Room n w) (length-map ts view) r

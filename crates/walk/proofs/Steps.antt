@@ -11,7 +11,7 @@ use Rattle.normal.proofs.Parts.{has_at, place_own, firsts_branch, firsts_has, fi
 use Rattle.graph.specs.Graph.{Solves}
 use Rattle.graph.proofs.Writes.{says_at}
 use Rattle.graph.specs.declared.Node.{Node}
-use Rattle.graph.specs.declared.Node.TheVariants.{Var, Base, Branch}
+use Rattle.graph.specs.declared.Node.TheVariants.{Var, Branch}
 use Rattle.walk.specs.Reads.{Reads, reads_branch, root, Flat}
 use Rattle.walk.specs.Work.{Work, work, key_of, part, State, zeros, Room, Grown, Exact, Walked, size, Above, Complete, Closed}
 use Rattle.walk.proofs.Graphs.{root_inside, root_same, root_reads, reads_proper}
@@ -209,13 +209,6 @@ module _ (ns : List Node) (flat : Flat ns) where
 
   pub smaller_right : (i k l r : ℕ) → i < length ns → get_or ns i Var ≡ Branch k l r → (v : ℕ → Ty) → Solves v ns → size (v r) < size (v i)
   smaller_right i k l r h e v s = omega (arith, ap size (says_at v ns i (Branch k l r) s h e))
-
--- a leaf has no parts
-pub complete_variable : (ns : List Node) (ms : List ℕ) (i : ℕ) → get_or ns i Var ≡ Var → Complete ns ms i
-complete_variable ns ms i e h l r d = let z : ◌≡◌ {A = ℕ} 0 1 = cc in absurd (omega arith)
-
-pub complete_base : (ns : List Node) (ms : List ℕ) (i c : ℕ) → get_or ns i Var ≡ Base c → Complete ns ms i
-complete_base ns ms i c e h l r d = let z : ◌≡◌ {A = ℕ} 0 1 = cc in absurd (omega arith)
 
 pub room_walked : (ns : List Node) (n : ℕ) (w w' : Work) (at p : ℕ) → Room n w → Walked ns w w' at p → length w'.marks ≡ length w.marks → length w'.origins ≡ length w.origins → length w'.heads ≡ length w.heads → length w'.nexts ≡ length w.nexts → Room n w'
 room_walked ns n w w' at p r x em eo eh ex =

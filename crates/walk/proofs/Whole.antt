@@ -16,7 +16,7 @@ use Rattle.graph.specs.declared.Node.{Node}
 use Rattle.graph.specs.declared.Node.TheVariants.{Var, Base, Branch, Link}
 use Rattle.walk.specs.Reads.{Reads, reads_variable, reads_base, reads_branch, reads_link, MostGeneral, Flat}
 use Rattle.walk.specs.Work.{Work, work, State, Room, zeros}
-use Rattle.walk.specs.Listing.{Shut, Sofar, Rooted, Columns, Narrow, SimpleNode, SimpleGraph, Canonical, Gathered, Listed, OneList}
+use Rattle.walk.specs.Listing.{Sofar, Rooted, Columns, Narrow, SimpleNode, SimpleGraph, Canonical, Gathered, Listed, OneList}
 use Rattle.walk.proofs.Graphs.{spelt_as, reads_one, general, reads_proper}
 use Rattle.walk.proofs.Chains.{table_none}
 
@@ -45,9 +45,6 @@ pub filled : (n k : ℕ) → ◌≡◌ {A = ℕ} (get_or (replicate n 0) k 0) 0
 filled zero k = refl
 filled (suc n) zero = refl
 filled (suc n) (suc k) = filled n k
-
-pub shut_none : (ms : List ℕ) → ((k : ℕ) → get_or ms k 0 ≡ 0) → Shut ms
-shut_none ms clear k e = omega (arith, clear k)
 
 -- ---- the end
 

@@ -6,6 +6,7 @@ use Rattle.graph.specs.Graph.{view}
 use Rattle.graph.specs.declared.Node.{Node}
 use Rattle.graph.specs.declared.Node.TheVariants.{Link}
 use Rattle.normal.specs.Normal.{normal_of}
+use Rattle.walk.specs.Table.{Table, bucket}
 use Rattle.walk.specs.declared.Refused.{Refused}
 use Rattle.walk.specs.declared.Refused.TheVariants.{Unlawful, ShortMemory, ShortNumbers}
 
@@ -14,6 +15,14 @@ abbrev pub Copy : List TypeNode → ℕ → Node → Type 0
 Copy l p x =
     ((x ≡ view (slice_index_or l p zero_node)) × ((q : ℕ) → q < p → slice_index_or l q zero_node ≢ slice_index_or l p zero_node))
     ⊎ ((q : ℕ) × (q < p) × (slice_index_or l q zero_node ≡ slice_index_or l p zero_node) × (x ≡ Link q))
+
+-- the first n places of the list are entered, by their records
+pub record ByRecord (l : List TypeNode) (n : ℕ) (heads nexts : List ℕ) : Type 0 where
+  pub some : 0 < length heads
+  pub within : n ≤ length l
+  pub chains : n ≤ length nexts
+  pub few : n ≤ 65536
+  pub table : Table (λ p. bucket (length heads) (slice_index_or l p zero_node)) n heads nexts
 
 -- The memory holds the normal list of the type that the list means, n records, and zero nodes behind it.
 pub record Normalized (l memory : List TypeNode) (n : ℕ) : Type 0 where

@@ -47,8 +47,8 @@ pub record Rested (ns : List Node) (w w' : Work) : Type 0 where
   pub sofar : (ps : List Ty) → State ns w ps → Sofar ns w' (λ k. k) ps (length ns)
   pub room : Room (length ns) w'
 
-abbrev pub Rest : List Node → Work → Work → Result ℕ Looped → Type 0
-Rest ns w w' (Ok n) = Rested ns w w'
+abbrev pub Rest : List Node → Work → Work → Result (Unit {0}) Looped → Type 0
+Rest ns w w' (Ok u) = Rested ns w w'
 Rest ns w w' (Err e) = Unsolvable ns
 
 -- three columns of numbers that hold the first n records of the parts

@@ -2,8 +2,7 @@
 ghost use Rattle.std.specs.Prelude.{◌≡◌, ℕ, ◌<◌, ◌≤◌, length, MatchOption, ◌≢◌, slice_index_or};
 ghost use Rattle.types.specs.Lists.{zero_node};
 ghost use Rattle.graph.specs.Graph.{view};
-ghost use Rattle.walk.specs.Table.{bucket, Table};
-ghost use Rattle.walk.specs.Copies.{Copy};
+ghost use Rattle.walk.specs.Copies.{Copy, ByRecord};
 
 use crate::places;
 use types::TypeNode;
@@ -16,11 +15,7 @@ fn find_equal(
     count: usize,
     x: TypeNode,
 ) -> Option<u16>
-    requires some { 0 < length heads.now }
-    requires within { count ≤ length list.now }
-    requires chains { count ≤ length nexts.now }
-    requires few { count ≤ 65536 }
-    requires table { Table (λ p. bucket (length heads.now) (slice_index_or list.now p zero_node)) count heads.now nexts.now }
+    requires { ByRecord list.now count heads.now nexts.now }
     ensures { MatchOption result ((k : ℕ) → k < count → slice_index_or list.now k zero_node ≢ x) (λ q. (q < count) × (slice_index_or list.now q zero_node ≡ x)) }
 {
     places::chain_of(heads, nexts, x).find(|place| list[*place as usize] == x)
@@ -28,11 +23,8 @@ fn find_equal(
 
 // What stands at a place of the copy: the record, or a link to an equal one before it.
 fn copy_at(list: &[TypeNode], heads: &[u32], nexts: &[u32], place: usize) -> TypeNode
-    requires some { 0 < length heads.now }
     requires within { place < length list.now }
-    requires chains { place ≤ length nexts.now }
-    requires few { place ≤ 65536 }
-    requires table { Table (λ p. bucket (length heads.now) (slice_index_or list.now p zero_node)) place heads.now nexts.now }
+    requires entered { ByRecord list.now place heads.now nexts.now }
     ensures { Copy list.now place (view result) }
 {
     let x = list[place];

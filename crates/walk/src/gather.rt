@@ -1,4 +1,5 @@
-// The list that the walk found, gathered in three columns of numbers and then written into a memory of type nodes.
+// The list that the walk found, gathered in three columns of numbers and then written into the memory of type nodes, where
+// the graph stands until then.
 ghost use Rattle.std.specs.Prelude.{◌≡◌, ℕ, ◌+◌, ◌<◌, ◌≤◌, List, length, if◌then◌else◌, nat_eq, slice_index, slice_index_or};
 ghost use Rattle.types.specs.Types.{Ty};
 ghost use Rattle.types.specs.Lists.{node, zero_node};
@@ -7,7 +8,7 @@ ghost use Rattle.walk.specs.Listing.{Columns, Narrow};
 ghost use Rattle.walk.specs.Lent.{nodes, held, SameMemories, Running};
 
 use crate::walking::Walk;
-use types::TypeNode;
+use types::{TypeNode, VARIABLE};
 
 // The number in a part's record: a variable has the next number, any other part what its key says.
 fn number_of(key: TypeNode, variables: &mut u32) -> u32
@@ -15,7 +16,7 @@ fn number_of(key: TypeNode, variables: &mut u32) -> u32
     ensures value { result ≡ (if nat_eq key.kind 0 then variables.old else key.left) }
     ensures count { variables.new ≡ variables.old + (if nat_eq key.kind 0 then 1 else 0) }
 {
-    if key.kind == 0 {
+    if key.kind == VARIABLE {
         let number = *variables;
         *variables = number + 1;
         number
@@ -26,7 +27,7 @@ fn number_of(key: TypeNode, variables: &mut u32) -> u32
 
 impl Walk<'_> {
     // Puts the kinds of the first `count` records where the origins of their parts stood, and their fields where the
-    // chains stood.
+    // chains stood. It goes by numbers: what is written through zipped iterators is not known afterwards.
     pub fn gather(&mut self, count: u32)
         requires running { Running self.old }
         requires within { count ≤ self.old.count }
@@ -44,7 +45,7 @@ impl Walk<'_> {
     }
 }
 
-// Writes the records from their columns.
+// Writes the records from their columns, by numbers for the same reason.
 pub fn write_rows(rows: &mut [TypeNode], kinds: &[u32], lefts: &[u32], rights: &[u32])
     requires first { length rows.old ≤ length kinds.now }
     requires second { length rows.old ≤ length lefts.now }

@@ -40,7 +40,8 @@ fn straighten(graph: &mut [TypeNode], i: usize)
     }
 }
 
-// Lets every link go straight to the node that stands for its class, from the lowest on.
+// Lets every link go straight to the node that stands for its class, from the lowest on. It goes by numbers, since a step
+// reads what the steps before it have written.
 fn flatten(graph: &mut [TypeNode])
     requires { Sound (map view graph.old) }
     ensures kept { Kept (map view graph.old) (map view graph.new) Always Always }

@@ -1,4 +1,5 @@
-// Places found again by their keys: chains of places whose keys have one number, from the latest place down.
+// Places found again by their keys: chains of places whose keys have one number, from the latest place down. They stand in
+// lent memories of numbers, in which 0 is no place and k + 1 is the place k.
 ghost use Rattle.std.specs.Prelude.{◌≡◌, ◌+◌, ◌<◌, length, slice_index, slice_set};
 ghost use Rattle.std.specs.Iterator.{at_most};
 ghost use Rattle.walk.specs.Table.{bucket, Falls, Goes};

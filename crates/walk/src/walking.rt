@@ -36,7 +36,7 @@ impl From<Mark> for u32 {
 
 // A graph, and in lent memories what a walk has found: a mark for each class, by the node that stands for it; for each
 // place the node that first had the type there; the chains of the places, by the keys of their types; and how many
-// places there are.
+// places there are. The chains are no struct in this one: what that would have written is not known once this is dropped.
 #[derive(Drop)]
 pub struct Walk<'a> {
     pub graph: &'a [TypeNode],
@@ -229,7 +229,7 @@ impl<'a> Walk<'a> {
     }
 
     // Lists the types of all nodes, behind what is listed.
-    pub fn list_rest(&mut self) -> Result<u32, Looped>
+    pub fn list_rest(&mut self) -> Result<(), Looped>
         requires running { Running self.old }
         requires shut { Shut self.old.marks.now }
         ensures same { SameMemories self.old self.new }
@@ -238,6 +238,6 @@ impl<'a> Walk<'a> {
         for at in 0..self.graph.len() {
             self.walk(at as u16)?;
         }
-        Ok(self.count)
+        Ok(())
     }
 }

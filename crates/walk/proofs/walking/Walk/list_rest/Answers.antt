@@ -22,7 +22,7 @@ loop-at-preserved c =
     let x = c.in_ok-walk.ensures in
     record {
       same = same_then _ _ _ i.same x.same;
-      running = running_walked _ _ _ _ i.running x.same x.outcome;
+      running = running_walked i.running x.same x.outcome;
       shut = shut_grown _ _ x.outcome.grown i.shut;
       sofar = λ ps s. sofar_more (nodes k) _ _ (λ j. j) ps c.loop-at.at _ (i.sofar ps s) (walked_as k c.loop-at.self (held c.walk.new.self) i.same.graph x.outcome);
     }

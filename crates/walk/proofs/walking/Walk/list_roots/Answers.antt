@@ -26,7 +26,7 @@ loop-root-preserved c =
     let y = walked_at (nodes k) _ _ _ (get_or c.args.roots.now n 0) _ (i.rest n (omega arith)) (walked_as k c.loop-root.self (held c.walk.new.self) i.same.graph x.outcome) in
     record {
       same = same_then _ _ _ i.same x.same;
-      running = running_walked _ _ _ _ i.running x.same x.outcome;
+      running = running_walked i.running x.same x.outcome;
       shut = shut_grown _ _ x.outcome.grown i.shut;
       sofar = sofar_more (nodes k) _ _ (λ j. get_or c.args.roots.now j 0) [] n place i.sofar y;
       placed = placed_more (nodes k) _ _ (λ j. get_or c.args.roots.now j 0) c.loop-root.roots n place c.requires.running.flat (omega arith) i.sofar y i.placed;
