@@ -108,10 +108,18 @@ fn leave_numbers<C: Catalogue>(
 ) -> io::Result<()> {
     tell_number(rt, "withdrawn from a new book", book.withdraw())?;
     tell_passed(rt, "dismissed", desk.submit_and_dismiss(book, b"\\x.x"))?;
-    tell_number(rt, "filed after that", desk.submit_and_file(book, b"net_of"))?;
+    tell_number(
+        rt,
+        "filed after that",
+        desk.submit_and_file(book, b"net_of"),
+    )?;
     tell_number(rt, "withdrawn", book.withdraw())?;
     tell_number(rt, "withdrawn again", book.withdraw())?;
-    tell_number(rt, "filed after that", desk.submit_and_file(book, b"paid_of"))
+    tell_number(
+        rt,
+        "filed after that",
+        desk.submit_and_file(book, b"paid_of"),
+    )
 }
 
 pub fn dismissed_and_withdrawn(rt: &HostRuntime, desk: &mut Desk) -> io::Result<()> {

@@ -64,11 +64,7 @@ fn while_open<C: Catalogue>(
 }
 
 // Leaves the candidate of a new book open for a while.
-fn leave_open<C: Catalogue>(
-    rt: &HostRuntime,
-    book: &mut Book<C>,
-    desk: &mut Desk,
-) -> io::Result<()>
+fn leave_open<C: Catalogue>(rt: &HostRuntime, book: &mut Book<C>, desk: &mut Desk) -> io::Result<()>
     requires { EveryRun C.entries book.old }
 {
     match desk.submit(book, b"\\x.x") {
