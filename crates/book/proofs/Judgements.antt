@@ -62,17 +62,15 @@ module _ (es : List Entry) (filed : ℕ) (text : List ℕ) (terms : List TermNod
   term_below = (references_are_below es filed text a.term a.formula).0 a.below
 
   -- what was read and typed may be kept
-  pub keepable : (K : Lists) (v : View) → filed ≡ length v.rows → (types numbers : ℕ) (types' : List TypeNode) (numbers' : List ℕ) (m : ℕ) → length types' ≡ types → Listed (entered es) K v (take n terms) types numbers types' numbers' m → Keepable v terms types' (record { nodes = n; records = m })
-  keepable K v count types numbers types' numbers' m long t =
+  pub keepable : (K : Lists) (v : View) → filed ≡ length v.rows → (types numbers : ℕ) (types' : List TypeNode) (numbers' : List ℕ) (m : ℕ) → Listed (entered es) K v (take n terms) types numbers types' numbers' m → Keepable v (take n terms) (take m types')
+  keepable K v count types numbers types' numbers' m t =
       let typed = t.typed in
       let same = term_front in
       let list : take m types' ≡ normal_of typed.type = front_of types' (normal_of typed.type) _ m typed.holds typed.count in
-      let size : length (take n terms) ≡ n = ap length same ∙ sym a.count in
+      let size : length (take m types') ≡ m = ap length list ∙ sym typed.count in
       record {
-        nodes = a.fits;
-        records = omega (arith, typed.within, t.workable.serves.records);
-        term_space = omega (arith, t.workable.fits);
-        list_space = t.fits;
+        term_space = t.workable.fits;
+        list_space = omega (arith, t.fits);
         proper = record {
           formula = record { tree = a.term; code = sym same; closed = formula_is_closed es text a.term a.formula; below = subst (λ (k : ℕ). Below k a.term) count term_below };
           lawful = subst Lawful (sym list) (typed.lawful a.term (sym same));
@@ -125,7 +123,7 @@ module _ (es : List Entry) (v : View) (l : Ledger) (st : Stands es v l) (s : Sub
       ((typeless_expansions (entered es) (expansions l.rows) (kept l.rows) st.kept.rows a.term below_expansions).0 (over_ledger (NoTypes (entered es)) none a.term refl))
   not_listed (overfull {τ = τ} w p m) = submitting.overfull (is_ready w) (is_principal τ p) (omega (arith, types_count v l st.shows admits.free))
 
-  pub found : (types' : List TypeNode) (numbers' : List ℕ) (m : ℕ) → Listed (entered es) (kept_lists v) v (take n terms) s.types s.numbers types' numbers' m → Found es l s terms types' (record { nodes = n; records = m })
+  pub found : (types' : List TypeNode) (numbers' : List ℕ) (m : ℕ) → Listed (entered es) (kept_lists v) v (take n terms) s.types s.numbers types' numbers' m → Found es l s (take n terms) (take m types')
   found types' numbers' m d =
       let typed = d.typed in
       record {

@@ -13,7 +13,6 @@ use Rattle.ledger.specs.Ledger.{Ledger, row_of}
 use Rattle.ledger.specs.Calls as calls
 use Rattle.ledger.specs.Steps.{Step, unsubmitted, submitted}
 use Rattle.ledger.specs.Submitting.{Unsubmitted}
-use Rattle.book.specs.declared.judging.Judged.{Judged}
 use Rattle.book.specs.Standing.{Stands, Answers}
 use Rattle.book.specs.Memories.{Leaves}
 use Rattle.book.specs.Judging.{Found}
@@ -23,8 +22,8 @@ module _ (es : List Entry) (v : View) (s : calls.Submission) where
   pub submit_refused : (r : Refusal) → ((l : Ledger) → Stands es v l → Unsubmitted es l s r) → Answers es v (calls.submit s) (calls.refused r) v
   submit_refused r no-use l st = record { ledger = l; step = unsubmitted (no-use l st); shows = st.shows }
 
-  pub submit_opens : (terms : List TermNode) (types : List TypeNode) (j : Judged) → ((l : Ledger) → Stands es v l → Found es l s terms types j) → Answers es v (calls.submit s) (calls.opened (length v.rows)) (with_candidate v (table.row (take j.nodes terms) (take j.records types)))
-  submit_opens terms types j finds l st =
+  pub submit_opens : (ts : List TermNode) (list : List TypeNode) → ((l : Ledger) → Stands es v l → Found es l s ts list) → Answers es v (calls.submit s) (calls.opened (length v.rows)) (with_candidate v (table.row ts list))
+  submit_opens ts list finds l st =
       let f = finds l st in
       let after : Ledger = record { rows = l.rows; candidate = Some (row_of l.rows f.term (normal_of f.type)) } in
       record {

@@ -1,5 +1,5 @@
 -- What a submit finds out before the book is changed.
-use Rattle.std.specs.Prelude.{◌≡◌, ℕ, ◌+◌, ◌<◌, ◌≤◌, true, false, List, length, take}
+use Rattle.std.specs.Prelude.{◌≡◌, ℕ, ◌+◌, ◌<◌, ◌≤◌, true, false, List, length}
 use Rattle.refusal.specs.Saying.{saying}
 use Rattle.refusal.specs.declared.Layer.TheVariants as layer
 use Rattle.refusal.specs.declared.Refusal.{Refusal}
@@ -19,7 +19,6 @@ use Rattle.table.specs.View.{View, is_held, term_nodes, list_nodes}
 use Rattle.ledger.specs.Ledger.{Ledger}
 use Rattle.ledger.specs.Calls.{Submission}
 use Rattle.ledger.specs.Submitting.{Submitted}
-use Rattle.book.specs.declared.judging.Judged.{Judged}
 
 -- no candidate is open, fewer than 128 formulas are filed, and the text has at most so many bytes
 pub record Admits (v : View) (bytes : ℕ) : Type 0 where
@@ -51,18 +50,16 @@ pub data NotListed (E K : Lists) (v : View) (ts : List TermNode) (types numbers 
   typeless : Workable E K v ts types numbers → NoTypes E K ts → NotListed E K v ts types numbers (saying 40 layer.Types 0)
   overfull : {τ : Ty} → Workable E K v ts types numbers → ((t : Term) → prefix t ≡ ts → MostGeneral E K t τ) → 4096 < list_nodes v + length (normal_of τ) → NotListed E K v ts types numbers (saying 41 layer.Book 0)
 
--- what stands at the front of the memories may be kept as the candidate
-pub record Keepable (v : View) (terms : List TermNode) (types : List TypeNode) (j : Judged) : Type 0 where
-  pub nodes : j.nodes ≤ length terms
-  pub records : j.records ≤ length types
-  pub term_space : term_nodes v + j.nodes ≤ 4096
-  pub list_space : list_nodes v + j.records ≤ 4096
-  pub proper : Proper (length v.rows) (row (take j.nodes terms) (take j.records types))
+-- a term's nodes and a list may be kept as the candidate
+pub record Keepable (v : View) (ts : List TermNode) (list : List TypeNode) : Type 0 where
+  pub term_space : term_nodes v + length ts ≤ 4096
+  pub list_space : list_nodes v + length list ≤ 4096
+  pub proper : Proper (length v.rows) (row ts list)
 
--- there it is the term that the ledger reads, and the list of its expansion's principal type
-pub record Found (es : List Entry) (l : Ledger) (s : Submission) (terms : List TermNode) (types : List TypeNode) (j : Judged) : Type 0 where
+-- they are those of the term that the ledger reads, and of its expansion's principal type
+pub record Found (es : List Entry) (l : Ledger) (s : Submission) (ts : List TermNode) (list : List TypeNode) : Type 0 where
   pub term : Term
   pub type : Ty
   pub submitted : Submitted es l s term type
-  pub nodes : take j.nodes terms ≡ prefix term
-  pub records : take j.records types ≡ normal_of type
+  pub nodes : ts ≡ prefix term
+  pub records : list ≡ normal_of type

@@ -69,7 +69,8 @@ impl<C: Catalogue> Book<C> {
             .map_err(without_ticket)
     }
 
-    // Carries out one dealing.
+    // Carries out one dealing. Dealings are values that the statement over all runs speaks of, so they are told apart here
+    // and are no closures.
     pub fn carry_out(
         &mut self,
         dealing: Dealing,

@@ -31,11 +31,11 @@ const MOST_TERM_NODES: usize = 4096;
 // The most type nodes that a book holds.
 const MOST_TYPE_NODES: usize = 4096;
 
-// A formula's term and the list of its type, at the fronts of the memories.
+// A formula's term and the list of its type, as they stand in the memories.
 #[derive(Clone, Copy)]
-pub struct Judged {
-    pub nodes: usize,
-    pub records: usize,
+pub struct Judged<'a> {
+    pub term: &'a [TermNode],
+    pub list: &'a [TypeNode],
 }
 
 // The questions before the text is read.
@@ -76,22 +76,25 @@ fn list_type<E: Source>(
 }
 
 // Reads a text as a formula and types it: its term and the list of its type then stand at the fronts of the memories.
-pub(crate) fn judge<C: Catalogue>(
+// These are lent one by one, for reading asks for the first alone and typing for the other two.
+pub(crate) fn judge<'a, C: Catalogue>(
     catalogue: &C,
     table: &Table,
     text: &[u8],
-    terms: &mut [TermNode],
-    types: &mut [TypeNode],
+    terms: &'a mut [TermNode],
+    types: &'a mut [TypeNode],
     numbers: &mut [u32],
-) -> Result<Judged, BookFault>
+) -> Result<Judged<'a>, BookFault>
     requires { Admits (view table.now) (length text.now) }
-    ensures keeps { MatchResult result (λ j. Keepable (view table.now) terms.new types.new j) (λ f. unread f ≡ false) }
-    ensures ledger { (l : Ledger) → Stands (C.entries catalogue.now) (view table.now) l → MatchResult result (λ j. Found (C.entries catalogue.now) l (submission text.now terms.old types.old numbers.old) terms.new types.new j) (λ f. Unsubmitted (C.entries catalogue.now) l (submission text.now terms.old types.old numbers.old) (says f)) }
+    ensures keeps { MatchResult result (λ j. Keepable (view table.now) j.term.now j.list.now) (λ f. unread f ≡ false) }
+    ensures ledger { (l : Ledger) → Stands (C.entries catalogue.now) (view table.now) l → MatchResult result (λ j. Found (C.entries catalogue.now) l (submission text.now terms.old types.old numbers.old) j.term.now j.list.now) (λ f. Unsubmitted (C.entries catalogue.now) l (submission text.now terms.old types.old numbers.old) (says f)) }
 {
     let nodes = read(catalogue, table.count(), text, terms)?;
+    let term = &terms[..nodes];
     let entries = Entries { catalogue };
-    let listed = list_type(&entries, table, &terms[0..nodes], types, numbers);
+    let listed = list_type(&entries, table, term, types, numbers);
     let Entries { catalogue: _ } = entries;
     let records = listed?;
-    Ok(Judged { nodes, records })
+    let list = &types[..records];
+    Ok(Judged { term, list })
 }

@@ -9,7 +9,7 @@ ghost use Rattle.book.specs.Replies.{numbered, reply_submit, Unspent, Opens, Ref
 
 use crate::book::Book;
 use crate::fault::BookFault;
-use crate::judging::{Judged, admit, judge};
+use crate::judging::{admit, judge};
 use crate::ticket::Ticket;
 use catalogue::interface::Catalogue;
 use term::TermNode;
@@ -31,9 +31,8 @@ impl<C: Catalogue> Book<C> {
         ensures candidate { Opens (has_candidate self.new) result }
     {
         let judged = judge(&self.catalogue, &self.table, text, terms, types, numbers)?;
-        let Judged { nodes, records } = judged;
         let number = self.table.count();
-        self.table.put(&terms[0..nodes], &types[0..records]);
+        self.table.put(judged.term, judged.list);
         Ok(number)
     }
 

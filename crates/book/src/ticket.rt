@@ -2,7 +2,8 @@
 ghost use Rattle.std.specs.Prelude.{◌≡◌, true, false};
 
 // A ticket is handed out for a candidate and has to be spent: it may be let go only then. It holds the number under which
-// the candidate would be filed, and does not know its book.
+// the candidate would be filed, and does not know its book. By `spent` the prover sees to it that none lapses: of a type
+// without `drop` only the compiler would.
 pub struct Ticket {
     pub(crate) number: u16,
     pub(crate) spent: bool,

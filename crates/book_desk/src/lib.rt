@@ -3,6 +3,7 @@
 
 pub mod desk;
 pub mod filing;
+pub mod fresh;
 pub mod opened;
 mod scribbling;
 pub mod telling;

@@ -5,9 +5,8 @@ use book::fault::BookFault;
 use book::outcome::Outcome;
 use catalogue::interface::Catalogue;
 use refusal::Refusal;
-use std::fmt;
-use std::io;
 use std::io::Write;
+use std::{fmt, io};
 
 // Room for a line.
 const LINE: usize = 4104;

@@ -9,7 +9,7 @@ use std::io;
 use types::TypeNode;
 
 #[derive(Clone, Copy)]
-struct Empty;
+pub struct Empty;
 
 impl Catalogue for Empty {
     ghost entries = { λ _. nothing };
@@ -31,16 +31,12 @@ impl Catalogue for Empty {
     }
 
     fn node(&self, _k: u16, _i: u16) -> TypeNode {
-        TypeNode {
-            kind: 0,
-            left: 0,
-            right: 0,
-        }
+        TypeNode::default()
     }
 }
 
 // Formulas without primitives have their types as ever, and every name of a primitive is unbound.
-fn without_primitives<C: Catalogue>(
+pub fn without_primitives<C: Catalogue>(
     rt: &HostRuntime,
     book: &mut Book<C>,
     desk: &mut Desk,
@@ -54,11 +50,4 @@ fn without_primitives<C: Catalogue>(
         b"gross_of",
         desk,
     )
-}
-
-pub fn empty_catalogue(rt: &HostRuntime, desk: &mut Desk) -> io::Result<()> {
-    let mut book = Book::new(Empty);
-    let told = without_primitives(rt, &mut book, desk);
-    let Empty = book.close();
-    told
 }

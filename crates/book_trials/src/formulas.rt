@@ -5,6 +5,19 @@ use book_desk::telling::attempt;
 use catalogue::interface::Catalogue;
 use std::io;
 
+// Submits each text, which is its own name.
+fn attempt_each<C: Catalogue>(
+    rt: &HostRuntime,
+    book: &mut Book<C>,
+    texts: &[&str],
+    desk: &mut Desk,
+) -> io::Result<()> {
+    for text in texts {
+        attempt(rt, book, text, text.as_bytes(), desk)?;
+    }
+    Ok(())
+}
+
 // Formulas in the order in which they are submitted; those that are filed are numbered from 0.
 const FORMULAS: [&str; 18] = [
     "#0",
@@ -32,10 +45,7 @@ pub fn formulas<C: Catalogue>(
     book: &mut Book<C>,
     desk: &mut Desk,
 ) -> io::Result<()> {
-    for text in FORMULAS {
-        attempt(rt, book, text, text.as_bytes(), desk)?;
-    }
-    Ok(())
+    attempt_each(rt, book, &FORMULAS, desk)
 }
 
 // Formulas whose types double in size, while their lists grow by a few nodes.
@@ -51,8 +61,5 @@ pub fn doubling<C: Catalogue>(
     book: &mut Book<C>,
     desk: &mut Desk,
 ) -> io::Result<()> {
-    for text in DOUBLING {
-        attempt(rt, book, text, text.as_bytes(), desk)?;
-    }
-    Ok(())
+    attempt_each(rt, book, &DOUBLING, desk)
 }

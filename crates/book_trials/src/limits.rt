@@ -3,7 +3,6 @@ ghost use Rattle.std.specs.Prelude.{◌≡◌, ◌+◌, ◌*◌, length, IfOk, v
 
 use book::book::Book;
 use book_desk::desk::Desk;
-use book_desk::filing::submit_and_file;
 use book_desk::telling::{attempt, tell_fault, tell_number};
 use catalogue::interface::Catalogue;
 use std::alloc::{AllocError, Global};
@@ -57,13 +56,7 @@ pub fn long_texts<C: Catalogue>(
 fn fill<C: Catalogue>(rt: &HostRuntime, book: &mut Book<C>, desk: &mut Desk) -> io::Result<()> {
     let mut last = 0;
     for _ in 0..MOST_FORMULAS {
-        match submit_and_file(
-            book,
-            b"\\x.x",
-            &mut desk.terms,
-            &mut desk.types,
-            &mut desk.numbers,
-        ) {
+        match desk.submit_and_file(book, b"\\x.x") {
             Ok(number) => last = number,
             Err(fault) => return tell_fault(rt, fault),
         }

@@ -1,24 +1,17 @@
 // Memories that are just long enough, and one short.
-ghost use Rattle.std.specs.Prelude.{IfOk};
-ghost use Rattle.ledger.specs.Calls.{show as to_show, line as to_line, derive as to_derive, filed_as};
+ghost use Rattle.std.specs.Prelude.{IfOk, Ok};
+ghost use Rattle.ledger.specs.Calls.{show as to_show, line as to_line, derive as to_derive};
 ghost use Rattle.book.specs.History.{Does};
 ghost use Rattle.book.specs.Replies.{reply_show, reply_line, reply_derive};
 
 use book::book::Book;
 use book::fault::BookFault;
-use book::outcome::Outcome;
 use book_desk::desk::{Desk, FULL_ROOM, Room};
 use book_desk::telling::{attempt, tell_length};
 use catalogue::interface::Catalogue;
 use std::alloc::{AllocError, Global};
 use std::io;
 use types::TypeNode;
-
-const ZERO_NODE: TypeNode = TypeNode {
-    kind: 0,
-    left: 0,
-    right: 0,
-};
 
 // Submits the identity, which has 2 term nodes and needs 2 type records and 32 numbers, in memories of these lengths.
 fn attempt_in<C: Catalogue>(
@@ -78,7 +71,7 @@ fn derived<C: Catalogue>(
 ) -> Result<Result<usize, BookFault>, AllocError>
     ensures { IfOk result (λ a. Does C.entries book.now (to_derive 0 types places numbers) (reply_derive a) book.now) }
 {
-    let mut types = vec![in heap; ZERO_NODE; types]?;
+    let mut types = vec![in heap; TypeNode::default(); types]?;
     let mut places = vec![in heap; 0u16; places]?;
     let mut numbers = vec![in heap; 0u32; numbers]?;
     Ok(book.derive(0, &mut types, &mut places, &mut numbers))
@@ -99,10 +92,10 @@ fn line_in<C: Catalogue>(
     book: &Book<C>,
     room: usize,
 ) -> Result<Result<usize, BookFault>, AllocError>
-    ensures { IfOk result (λ a. Does C.entries book.now (to_line (filed_as 0) room) (reply_line a) book.now) }
+    ensures { IfOk result (λ a. Does C.entries book.now (to_line (Ok 0) room) (reply_line a) book.now) }
 {
     let mut out = vec![in heap; 0u8; room]?;
-    Ok(book.line(Outcome::Filed(0), &mut out))
+    Ok(book.line(Ok(0), &mut out))
 }
 
 // How long the type of formula 0 is, in so much room.

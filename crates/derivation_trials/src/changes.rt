@@ -3,7 +3,6 @@ ghost use Rattle.std.specs.Prelude.{◌≡◌, ◌≢◌};
 
 use book::book::Book;
 use book_desk::desk::Desk;
-use book_desk::filing::submit_and_file;
 use book_desk::telling::{tell_fault, tell_passed};
 use catalogue::interface::Catalogue;
 use std::io;
@@ -58,6 +57,7 @@ fn changed_places<C: Catalogue>(
     list: &[TypeNode],
     places: &mut [u16],
 ) -> io::Result<()> {
+    // Each check is of all places, of which one is changed for a while: so they are written by their numbers.
     for node in 0..places.len() {
         let place = places[node];
         places[node] = other(place);
@@ -82,7 +82,7 @@ fn derive_and_check<C: Catalogue>(
     let mut places = vec![in rt.alloc(); 0u16; nodes]?;
     match book.derive(number, &mut desk.types, &mut places, &mut desk.numbers) {
         Ok(records) => {
-            let list = desk.types.get(0..records).unwrap_or(&desk.types);
+            let list = desk.types.get(..records).unwrap_or(&desk.types);
             tell_passed(rt, "  as derived", book.check(number, list, &places))?;
             changed_places(rt, book, number, list, &mut places)
         }
@@ -98,13 +98,7 @@ pub fn derivations<C: Catalogue>(
 ) -> io::Result<()> {
     for Formula { text, nodes } in FORMULAS {
         println!(rt; "{text}")?;
-        match submit_and_file(
-            book,
-            text.as_bytes(),
-            &mut desk.terms,
-            &mut desk.types,
-            &mut desk.numbers,
-        ) {
+        match desk.submit_and_file(book, text.as_bytes()) {
             Ok(number) => derive_and_check(rt, book, number, nodes, desk)?,
             Err(fault) => tell_fault(rt, fault)?,
         }

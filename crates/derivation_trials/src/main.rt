@@ -6,6 +6,7 @@ mod lists;
 
 use book::book::Book;
 use book_desk::desk::{Desk, FULL_ROOM};
+use book_desk::fresh::on_a_new_book;
 use catalogue::builtin::Builtin;
 use changes::derivations;
 use lists::other_lists;
@@ -18,8 +19,5 @@ fn perform(rt: &HostRuntime, book: &mut Book<Builtin>, desk: &mut Desk) -> io::R
 
 fn main(rt: HostRuntime) -> io::Result<()> {
     let mut desk = Desk::new(rt.alloc(), FULL_ROOM)?;
-    let mut book = Book::new(Builtin);
-    let performed = perform(&rt, &mut book, &mut desk);
-    let Builtin = book.close();
-    performed
+    on_a_new_book(Builtin, |book| perform(&rt, book, &mut desk))
 }

@@ -31,10 +31,7 @@ fn filing(filed: Answer) -> Outcome
 }
 
 // What became of a line that was submitted and then filed with these answers.
-pub fn outcome(
-    submitted: Result<Answer, BookFault>,
-    filed: Result<Answer, BookFault>,
-) -> Outcome
+pub fn outcome(submitted: Result<Answer, BookFault>, filed: Result<Answer, BookFault>) -> Outcome
     ensures { result ≡ came_to submitted filed }
 {
     let _ = submitted?;

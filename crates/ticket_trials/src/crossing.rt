@@ -4,22 +4,22 @@ ghost use Rattle.ledger.specs.Calls.{dismiss as to_dismiss, dismissed as is_dism
 ghost use Rattle.book.specs.History.{Does};
 ghost use Rattle.book.specs.Replies.{has_candidate};
 
-use crate::tickets::{Spent, file_crosswise, file_in_either};
+use crate::tickets::{file_crosswise, file_in_either};
 use book::book::Book;
-use book::outcome::Outcome;
+use book::fault::BookFault;
 use book::ticket::Ticket;
 use book_desk::desk::Desk;
-use book_desk::filing::{submit_and_dismiss, submit_and_file};
+use book_desk::fresh::on_a_new_book;
 use book_desk::telling::{tell, tell_fault, tell_number, tell_passed};
 use catalogue::builtin::Builtin;
 use catalogue::interface::Catalogue;
 use std::io;
 
 // Prints where a ticket was spent.
-fn tell_spent(rt: &HostRuntime, spent: Spent) -> io::Result<()> {
+fn tell_spent(rt: &HostRuntime, spent: Result<u16, (BookFault, u16)>) -> io::Result<()> {
     match spent {
-        Spent::Here(number) => println!(rt; "filed in the other book: #{number}"),
-        Spent::There(fault, number) => {
+        Ok(number) => println!(rt; "filed in the other book: #{number}"),
+        Err((fault, number)) => {
             print!(rt; "no candidate in the other book: ")?;
             tell_fault(rt, fault)?;
             println!(rt; "the ticket came back, and filed in its own book: #{number}")
@@ -27,22 +27,24 @@ fn tell_spent(rt: &HostRuntime, spent: Spent) -> io::Result<()> {
     }
 }
 
+// Tries the ticket of the second book on the first.
+fn try_elsewhere<C: Catalogue>(
+    rt: &HostRuntime,
+    here: &mut Book<C>,
+    there: &mut Book<C>,
+    desk: &mut Desk,
+) -> io::Result<()> {
+    match desk.submit(there, b"\\x.x") {
+        Ok(ticket) => tell_spent(rt, file_in_either(here, there, ticket)),
+        Err(fault) => tell_fault(rt, fault),
+    }
+}
+
 // A book without a candidate hands back the ticket of another.
 pub fn another_books_ticket(rt: &HostRuntime, desk: &mut Desk) -> io::Result<()> {
-    let mut here = Book::new(Builtin);
-    let mut there = Book::new(Builtin);
-    let told = match there.submit(
-        b"\\x.x",
-        &mut desk.terms,
-        &mut desk.types,
-        &mut desk.numbers,
-    ) {
-        Ok(ticket) => tell_spent(rt, file_in_either(&mut here, &mut there, ticket)),
-        Err(fault) => tell_fault(rt, fault),
-    };
-    let Builtin = here.close();
-    let Builtin = there.close();
-    told
+    on_a_new_book(Builtin, |here| {
+        on_a_new_book(Builtin, |there| try_elsewhere(rt, here, there, desk))
+    })
 }
 
 // Dismisses the candidate that a book has open.
@@ -50,10 +52,7 @@ fn dismiss_open<C: Catalogue>(book: &mut Book<C>, ticket: Ticket)
     requires { has_candidate book.old ≡ true }
     ensures { Does C.entries book.old to_dismiss is_dismissed book.new }
 {
-    match book.dismiss(ticket) {
-        Ok(()) => {}
-        Err(_) => unreachable(),
-    }
+    book.dismiss(ticket).unwrap();
 }
 
 // Submits a formula to the second book, and files in both by the ticket of the other.
@@ -66,18 +65,13 @@ fn exchange<C: Catalogue>(
 ) -> io::Result<()>
     requires { has_candidate here.old ≡ true }
 {
-    match there.submit(
-        b"net_of",
-        &mut desk.terms,
-        &mut desk.types,
-        &mut desk.numbers,
-    ) {
+    match desk.submit(there, b"net_of") {
         Ok(yours) => {
             let (first, second) = file_crosswise(here, there, mine, yours);
             print!(rt; "filed by the other's ticket: ")?;
-            tell(rt, here, Outcome::Filed(first))?;
+            tell(rt, here, Ok(first))?;
             print!(rt; "filed by the other's ticket: ")?;
-            tell(rt, there, Outcome::Filed(second))
+            tell(rt, there, Ok(second))
         }
         Err(fault) => {
             dismiss_open(here, mine);
@@ -86,22 +80,24 @@ fn exchange<C: Catalogue>(
     }
 }
 
+// Submits a formula to each of two books, and files in both.
+fn submit_to_both<C: Catalogue>(
+    rt: &HostRuntime,
+    here: &mut Book<C>,
+    there: &mut Book<C>,
+    desk: &mut Desk,
+) -> io::Result<()> {
+    match desk.submit(here, b"\\x.x") {
+        Ok(mine) => exchange(rt, here, there, mine, desk),
+        Err(fault) => tell_fault(rt, fault),
+    }
+}
+
 // A ticket files the candidate of whichever book it is spent on.
 pub fn exchanged_tickets(rt: &HostRuntime, desk: &mut Desk) -> io::Result<()> {
-    let mut here = Book::new(Builtin);
-    let mut there = Book::new(Builtin);
-    let told = match here.submit(
-        b"\\x.x",
-        &mut desk.terms,
-        &mut desk.types,
-        &mut desk.numbers,
-    ) {
-        Ok(mine) => exchange(rt, &mut here, &mut there, mine, desk),
-        Err(fault) => tell_fault(rt, fault),
-    };
-    let Builtin = here.close();
-    let Builtin = there.close();
-    told
+    on_a_new_book(Builtin, |here| {
+        on_a_new_book(Builtin, |there| submit_to_both(rt, here, there, desk))
+    })
 }
 
 // What is dismissed or withdrawn leaves its number to the next.
@@ -111,24 +107,21 @@ fn leave_numbers<C: Catalogue>(
     desk: &mut Desk,
 ) -> io::Result<()> {
     tell_number(rt, "withdrawn from a new book", book.withdraw())?;
-    let Desk {
-        terms,
-        types,
-        numbers,
-    } = desk;
-    let dismissed = submit_and_dismiss(book, b"\\x.x", terms, types, numbers);
-    tell_passed(rt, "dismissed", dismissed)?;
-    let filed = submit_and_file(book, b"net_of", terms, types, numbers);
-    tell_number(rt, "filed after that", filed)?;
+    tell_passed(rt, "dismissed", desk.submit_and_dismiss(book, b"\\x.x"))?;
+    tell_number(
+        rt,
+        "filed after that",
+        desk.submit_and_file(book, b"net_of"),
+    )?;
     tell_number(rt, "withdrawn", book.withdraw())?;
     tell_number(rt, "withdrawn again", book.withdraw())?;
-    let filed = submit_and_file(book, b"paid_of", terms, types, numbers);
-    tell_number(rt, "filed after that", filed)
+    tell_number(
+        rt,
+        "filed after that",
+        desk.submit_and_file(book, b"paid_of"),
+    )
 }
 
 pub fn dismissed_and_withdrawn(rt: &HostRuntime, desk: &mut Desk) -> io::Result<()> {
-    let mut book = Book::new(Builtin);
-    let told = leave_numbers(rt, &mut book, desk);
-    let Builtin = book.close();
-    told
+    on_a_new_book(Builtin, |book| leave_numbers(rt, book, desk))
 }

@@ -1,11 +1,12 @@
 // A candidate that is left open for a while.
 ghost use Rattle.std.specs.Prelude.{◌≡◌};
+ghost use Rattle.book.specs.History.{EveryRun};
 ghost use Rattle.book_desk.specs.Represented.{Open};
 
 use book::book::Book;
-use book::outcome::Outcome;
 use book::ticket::Ticket;
 use book_desk::desk::Desk;
+use book_desk::fresh::on_a_new_book;
 use book_desk::opened::{refused_submit, refused_withdrawal};
 use book_desk::telling::{tell_fault, tell_length, tell_passed};
 use catalogue::builtin::Builtin;
@@ -13,19 +14,13 @@ use catalogue::interface::Catalogue;
 use std::io;
 use types::TypeNode;
 
-const ZERO_NODE: TypeNode = TypeNode {
-    kind: 0,
-    left: 0,
-    right: 0,
-};
-
 // The candidate's type is shown; it has no line and no derivation yet.
 fn look<C: Catalogue>(rt: &HostRuntime, book: &Book<C>, number: u16) -> io::Result<()> {
     let mut out = vec![in rt.alloc(); 0u8; 4104]?;
     tell_length(rt, "the candidate shown", book.show(number, &mut out))?;
     tell_length(rt, "number 1 shown", book.show(1, &mut out))?;
     tell_length(rt, "number 65,535 shown", book.show(65535, &mut out))?;
-    let line = book.line(Outcome::Filed(number), &mut out);
+    let line = book.line(Ok(number), &mut out);
     tell_length(rt, "the candidate's line", line)
 }
 
@@ -35,7 +30,7 @@ fn look_for_derivation<C: Catalogue>(
     book: &Book<C>,
     number: u16,
 ) -> io::Result<()> {
-    let mut types = [ZERO_NODE; 2];
+    let mut types = [TypeNode::default(); 2];
     let mut places = [0u16; 2];
     let mut numbers = [0u32; 32];
     let derived = book.derive(number, &mut types, &mut places, &mut numbers);
@@ -54,40 +49,30 @@ fn while_open<C: Catalogue>(
     requires { Open C.entries book.old }
 {
     desk.scribble();
-    let second = refused_submit(
-        book,
-        b"\\x.\\y.y",
-        &mut desk.terms,
-        &mut desk.types,
-        &mut desk.numbers,
-    );
+    let second = refused_submit(book, b"\\x.\\y.y", desk);
     let withdrawal = refused_withdrawal(book);
     let looked = look(rt, book, ticket.number());
     let sought = look_for_derivation(rt, book, ticket.number());
-    match book.dismiss(ticket) {
-        Ok(()) => {}
-        Err(_) => unreachable(),
-    }
+    book.dismiss(ticket).unwrap();
     looked?;
     sought?;
-    let left = desk.left().word();
+    let left = desk.left();
     print!(rt; "submitted while a candidate is open ({left}): ")?;
     tell_fault(rt, second)?;
     print!(rt; "withdrawn while a candidate is open: ")?;
     tell_fault(rt, withdrawal)
 }
 
-pub fn open_candidate(rt: &HostRuntime, desk: &mut Desk) -> io::Result<()> {
-    let mut book = Book::new(Builtin);
-    let told = match book.submit(
-        b"\\x.x",
-        &mut desk.terms,
-        &mut desk.types,
-        &mut desk.numbers,
-    ) {
-        Ok(ticket) => while_open(rt, &mut book, ticket, desk),
+// Leaves the candidate of a new book open for a while.
+fn leave_open<C: Catalogue>(rt: &HostRuntime, book: &mut Book<C>, desk: &mut Desk) -> io::Result<()>
+    requires { EveryRun C.entries book.old }
+{
+    match desk.submit(book, b"\\x.x") {
+        Ok(ticket) => while_open(rt, book, ticket, desk),
         Err(fault) => tell_fault(rt, fault),
-    };
-    let Builtin = book.close();
-    told
+    }
+}
+
+pub fn open_candidate(rt: &HostRuntime, desk: &mut Desk) -> io::Result<()> {
+    on_a_new_book(Builtin, |book| leave_open(rt, book, desk))
 }

@@ -10,32 +10,19 @@ use book::fault::BookFault;
 use book::ticket::Ticket;
 use catalogue::interface::Catalogue;
 
-// Where a ticket was spent, and under which number the candidate was filed there.
-#[derive(Clone, Copy)]
-pub enum Spent {
-    Here(u16),
-    // The first book refused.
-    There(BookFault, u16),
-}
-
-// Files by a ticket in the first book, or else in the second.
+// Files by a ticket in the first book, and answers the number; or else in the second, and answers the refusal of the
+// first and the number.
 pub fn file_in_either<C: Catalogue>(
     here: &mut Book<C>,
     there: &mut Book<C>,
     ticket: Ticket,
-) -> Spent
+) -> Result<u16, (BookFault, u16)>
     requires { has_candidate there.old ≡ true }
     ensures { Filed C.entries here.old here.new there.old there.new result }
 {
     match here.file(ticket) {
-        Ok(number) => Spent::Here(number),
-        Err(refused) => {
-            let (fault, ticket) = refused;
-            match there.file(ticket) {
-                Ok(number) => Spent::There(fault, number),
-                Err(_) => unreachable(),
-            }
-        }
+        Ok(number) => Ok(number),
+        Err((fault, ticket)) => Err((fault, there.file(ticket).unwrap())),
     }
 }
 
@@ -50,11 +37,7 @@ pub fn file_crosswise<C: Catalogue>(
     requires there { has_candidate there.old ≡ true }
     ensures { Does C.entries here.old to_file (is_filed result.0) here.new × Does C.entries there.old to_file (is_filed result.1) there.new }
 {
-    match here.file(yours) {
-        Ok(first) => match there.file(mine) {
-            Ok(second) => (first, second),
-            Err(_) => unreachable(),
-        },
-        Err(_) => unreachable(),
-    }
+    let first = here.file(yours).unwrap();
+    let second = there.file(mine).unwrap();
+    (first, second)
 }

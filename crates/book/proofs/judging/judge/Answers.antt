@@ -1,13 +1,10 @@
-use Rattle.std.proofs.Common.{◌≡◌, ℕ, ◌-◌, length, take, refl, subst, arith}
+use Rattle.std.proofs.Common.{ℕ, length, refl, subst}
 use Rattle.std.proofs.lemmas.Result.{err_from_is_err_and}
 use Rattle.formula.specs.Faults.{says as formula_says}
 use Rattle.formula.specs.Reading.{Accepted}
 use Rattle.formula.specs.Reading as reading
 use Rattle.table.specs.View.{view}
-use Rattle.ledger.specs.Ledger.{entered}
-use Rattle.book.specs.Faults.{says}
 use Rattle.book.specs.Memories.{kept_lists, submission}
-use Rattle.book.specs.Judging.{Listed, NotListed}
 use Rattle.book.proofs.Judgements.{not_read, keepable, not_listed, found}
 use Rattle.book.proofs.judging.judge.Goals as goal
 
@@ -28,10 +25,7 @@ returns-in_err-records g c =
     let s = submission c.args.text.now c.args.terms.now c.args.types.now c.args.numbers.now in
     let n = c.in_ok-nodes.nodes in
     let a = subst (λ (k : ℕ). Accepted es k s.text c.read.new.memory n) c.count.ensures.rows c.in_ok-nodes.ensures in
-    let z : n - 0 ≡ n = omega arith in
-    let r = says c.in_err-records.field-0.0 in
-    let f = subst (λ (k : ℕ). NotListed (entered es) (kept_lists v) v (take k c.read.new.memory) s.types s.numbers r) z c.in_err-records.ensures.0 in
-    rw (p.1, p.2) (record { keeps = c.in_err-records.ensures.1; ledger = λ l st. not_listed es v l st s c.requires c.read.new.memory c.read.auto.memory n a f })
+    rw (p.1, p.2) (record { keeps = c.in_err-records.ensures.1; ledger = λ l st. not_listed es v l st s c.requires c.read.new.memory c.read.auto.memory n a c.in_err-records.ensures.0 })
 
 pub returns : goal.returns
 returns g c =
@@ -41,9 +35,8 @@ returns g c =
     let n = c.in_ok-nodes.nodes in
     let m = c.in_ok-records.records in
     let a = subst (λ (k : ℕ). Accepted es k s.text c.read.new.memory n) c.count.ensures.rows c.in_ok-nodes.ensures in
-    let z : n - 0 ≡ n = omega arith in
-    let d = subst (λ (k : ℕ). Listed (entered es) (kept_lists v) v (take k c.read.new.memory) s.types s.numbers c.list_type-listed.new.types c.list_type-listed.new.numbers m) z c.in_ok-records.ensures in
+    let d = c.in_ok-records.ensures in
     record {
-      keeps = keepable es (length v.rows) s.text c.read.new.memory n a (kept_lists v) v refl s.types s.numbers c.list_type-listed.new.types c.list_type-listed.new.numbers m c.list_type-listed.auto.types d;
+      keeps = keepable es (length v.rows) s.text c.read.new.memory n a (kept_lists v) v refl s.types s.numbers c.list_type-listed.new.types c.list_type-listed.new.numbers m d;
       ledger = λ l st. found es v l st s c.requires c.read.new.memory c.read.auto.memory n a c.list_type-listed.new.types c.list_type-listed.new.numbers m d;
     }

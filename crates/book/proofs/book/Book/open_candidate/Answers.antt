@@ -1,4 +1,4 @@
-use Rattle.std.proofs.Common.{◌≡◌, ℕ, ◌-◌, take, sym, refl, ap, ◌∙◌, subst, ap₂, arith}
+use Rattle.std.proofs.Common.{ℕ, sym, refl, ap, subst}
 use Rattle.std.proofs.lemmas.Result.{err_from_is_err_and}
 use Rattle.table.specs.Rows.{row}
 use Rattle.table.specs.View.{View, view, is_held, with_candidate}
@@ -27,21 +27,16 @@ returns g c =
     let v = view b.table in
     let es = g.C.Catalogue.entries b.catalogue in
     let s = submission c.args.text.now c.args.terms.now c.args.types.now c.args.numbers.now in
-    let j = c.in_ok-judged.judged in
-    let terms = c.judge.new.terms in
-    let types = c.judge.new.types in
-    let z : j.nodes - 0 ≡ j.nodes = omega arith in
-    let y : j.records - 0 ≡ j.records = omega arith in
-    let is : view c.put.new.self ≡ with_candidate v (row (take j.nodes terms) (take j.records types)) = (
-    c.put.ensures ∙ ap₂ (λ (n m : ℕ). with_candidate v (row (take n terms) (take m types))) z y) in
-    let answers = submit_opens es v s terms types j c.in_ok-judged.ensures.ledger in
+    let ts = c.in_ok-judged.judged.term.now in
+    let list = c.in_ok-judged.judged.list.now in
+    let answers = submit_opens es v s ts list c.in_ok-judged.ensures.ledger in
     record {
       link = record {
         same = refl;
-        answers = subst (Answers es v (calls.submit s) (calls.opened c.count-number.result)) (sym is)
-            (subst (λ (n : ℕ). Answers es v (calls.submit s) (calls.opened n) (with_candidate v (row (take j.nodes terms) (take j.records types)))) (sym c.count-number.ensures.rows) answers);
+        answers = subst (Answers es v (calls.submit s) (calls.opened c.count-number.result)) (sym c.put.ensures)
+            (subst (λ (n : ℕ). Answers es v (calls.submit s) (calls.opened n) (with_candidate v (row ts list))) (sym c.count-number.ensures.rows) answers);
       };
       work = refl;
       kept = tt;
-      candidate = ap (λ (w : View). is_held w.candidate) is;
+      candidate = ap (λ (w : View). is_held w.candidate) c.put.ensures;
     }
