@@ -14,6 +14,7 @@ use crate::book::Book;
 use crate::fault::BookFault;
 use catalogue::interface::Catalogue;
 use derivation_check::check as check_derivation;
+use infer::Term;
 use sources::Entries;
 use typer::derive as derive_term;
 use types::TypeNode;
@@ -35,13 +36,14 @@ impl<C: Catalogue> Book<C> {
         if number >= self.table.count() {
             return Err(BookFault::NotFiled);
         }
-        let entries = Entries {
-            catalogue: &self.catalogue,
+        let term = Term {
+            entries: &Entries {
+                catalogue: &self.catalogue,
+            },
+            kept: &self.table,
+            nodes: self.table.term(number),
         };
-        let nodes = self.table.term(number);
-        let derived = derive_term(&entries, &self.table, nodes, types, places, numbers);
-        let Entries { catalogue: _ } = entries;
-        Ok(derived?)
+        Ok(derive_term(&term, types, places, numbers)?)
     }
 
     // Whether a list of types, with a place in it for each node of a filed formula, is a typing derivation of it.
@@ -52,12 +54,13 @@ impl<C: Catalogue> Book<C> {
         if number >= self.table.count() {
             return Err(BookFault::NotFiled);
         }
-        let entries = Entries {
-            catalogue: &self.catalogue,
+        let term = Term {
+            entries: &Entries {
+                catalogue: &self.catalogue,
+            },
+            kept: &self.table,
+            nodes: self.table.term(number),
         };
-        let term = self.table.term(number);
-        let checked = check_derivation(&entries, &self.table, term, list, places);
-        let Entries { catalogue: _ } = entries;
-        Ok(checked?)
+        Ok(check_derivation(&term, list, places)?)
     }
 }

@@ -12,6 +12,7 @@ use crate::fault::BookFault;
 use catalogue::interface::Catalogue;
 use copy::Source;
 use formula::reader::read;
+use infer::Term;
 use sources::Entries;
 use table::table::Table;
 use term::TermNode;
@@ -56,19 +57,18 @@ pub(crate) fn admit(table: &Table, text: &[u8]) -> Result<(), BookFault>
 
 // The list of the most general type of a term that was read, and how many records it has.
 fn list_type<E: Source>(
-    entries: &E,
-    table: &Table,
-    term: &[TermNode],
+    term: &Term<E, Table>,
     types: &mut [TypeNode],
     numbers: &mut [u32],
 ) -> Result<usize, BookFault>
-    ensures { MatchResult result (λ n. Listed (E.list entries.now) (kept_lists (view table.now)) (view table.now) term.now (length types.old) (length numbers.old) types.new numbers.new n) (λ f. NotListed (E.list entries.now) (kept_lists (view table.now)) (view table.now) term.now (length types.old) (length numbers.old) (says f) × (unread f ≡ false)) }
+    ensures { MatchResult result (λ n. Listed (E.list term.now.entries.now) (kept_lists (view term.now.kept.now)) (view term.now.kept.now) term.now.nodes.now (length types.old) (length numbers.old) types.new numbers.new n) (λ f. NotListed (E.list term.now.entries.now) (kept_lists (view term.now.kept.now)) (view term.now.kept.now) term.now.nodes.now (length types.old) (length numbers.old) (says f) × (unread f ≡ false)) }
 {
-    let _ = ask(entries, table, term, types.len(), numbers.len())?;
-    if table.used_terms() as usize + term.len() > MOST_TERM_NODES {
+    let table = term.kept;
+    let _ = ask(term, types.len(), numbers.len())?;
+    if table.used_terms() as usize + term.nodes.len() > MOST_TERM_NODES {
         return Err(BookFault::NoTermSpace);
     }
-    let records = type_term(entries, table, term, types, numbers)?;
+    let records = type_term(term, types, numbers)?;
     if table.used_types() as usize + records > MOST_TYPE_NODES {
         return Err(BookFault::NoListSpace);
     }

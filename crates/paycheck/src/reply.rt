@@ -7,6 +7,7 @@ use crate::fault::LineFault;
 use catalogue::builtin::Builtin;
 use copy::nothing::Nothing;
 use formula::reader::read;
+use infer::Term;
 use printing::{ShowFault, show};
 use sources::Entries;
 use term::TermNode;
@@ -30,12 +31,14 @@ pub fn reply(
         return Err(LineFault::TooManyBytes);
     }
     let count = read(&Builtin, 0, line, terms)?;
-    let entries = Entries {
-        catalogue: &Builtin,
+    let term = Term {
+        entries: &Entries {
+            catalogue: &Builtin,
+        },
+        kept: &Nothing,
+        nodes: &terms[..count],
     };
-    let typed = type_term(&entries, &Nothing, &terms[0..count], types, numbers);
-    let Entries { catalogue: _ } = entries;
-    let records = typed?;
+    let records = type_term(&term, types, numbers)?;
     match show(&types[0..records], out) {
         Ok(length) => Ok(length),
         Err(ShowFault::TooLong) => Err(LineFault::TooLong),
