@@ -36,12 +36,13 @@ impl<C: Catalogue> Book<C> {
         if number >= self.table.count() {
             return Err(BookFault::NotFiled);
         }
+        let nodes = self.table.term(number);
         let term = Term {
             entries: &Entries {
                 catalogue: &self.catalogue,
             },
             kept: &self.table,
-            nodes: self.table.term(number),
+            nodes,
         };
         Ok(derive_term(&term, types, places, numbers)?)
     }
@@ -54,12 +55,13 @@ impl<C: Catalogue> Book<C> {
         if number >= self.table.count() {
             return Err(BookFault::NotFiled);
         }
+        let formula = self.table.term(number);
         let term = Term {
             entries: &Entries {
                 catalogue: &self.catalogue,
             },
             kept: &self.table,
-            nodes: self.table.term(number),
+            nodes: formula,
         };
         Ok(check_derivation(&term, list, places)?)
     }

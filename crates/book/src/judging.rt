@@ -91,10 +91,12 @@ pub(crate) fn judge<'a, C: Catalogue>(
 {
     let nodes = read(catalogue, table.count(), text, terms)?;
     let term = &terms[..nodes];
-    let entries = Entries { catalogue };
-    let listed = list_type(&entries, table, term, types, numbers);
-    let Entries { catalogue: _ } = entries;
-    let records = listed?;
+    let read = Term {
+        entries: &Entries { catalogue },
+        kept: table,
+        nodes: term,
+    };
+    let records = list_type(&read, types, numbers)?;
     let list = &types[..records];
     Ok(Judged { term, list })
 }

@@ -37,6 +37,6 @@ returns g c =
     let a = subst (λ (k : ℕ). Accepted es k s.text c.read.new.memory n) c.count.ensures.rows c.in_ok-nodes.ensures in
     let d = c.in_ok-records.ensures in
     record {
-      keeps = keepable es (length v.rows) s.text c.read.new.memory n a (kept_lists v) v refl s.types s.numbers c.list_type-listed.new.types c.list_type-listed.new.numbers m d;
-      ledger = λ l st. found es v l st s c.requires c.read.new.memory c.read.auto.memory n a c.list_type-listed.new.types c.list_type-listed.new.numbers m d;
+      keeps = keepable es (length v.rows) s.text c.read.new.memory n a (kept_lists v) v refl s.types s.numbers c.list_type.new.types c.list_type.new.numbers m d;
+      ledger = λ l st. found es v l st s c.requires c.read.new.memory c.read.auto.memory n a c.list_type.new.types c.list_type.new.numbers m d;
     }

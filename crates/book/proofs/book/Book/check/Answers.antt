@@ -18,13 +18,13 @@ returns-then-number-count g c =
       steps = not_filed (omega (arith, c.count.ensures.rows, c.if-number-count.true));
     }
 
-pub returns-in_err-checked : goal.returns-in_err-checked
-returns-in_err-checked g c =
+pub returns-in_err-check : goal.returns-in_err-check
+returns-in_err-check g c =
     let b = c.args.self.now in
     let es = g.C.Catalogue.entries b.catalogue in
     let p = err_from_is_err_and c.from_residual.result c.from_residual.ensures.1 in
     let h : c.args.number < length (view b.table).rows = omega (arith, c.count.ensures.rows, c.if-number-count.false) in
-    let f = subst (λ (ts : List TermNode). Refuses (entered es) (kept_lists (view b.table)) ts c.args.list.now c.args.places.now (check_says c.in_err-checked.field-0.0)) c.term-term.ensures c.in_err-checked.ensures.answer in
+    let f = subst (λ (ts : List TermNode). Refuses (entered es) (kept_lists (view b.table)) ts c.args.list.now c.args.places.now (check_says c.in_err-check.field-0.0)) c.term-formula.ensures c.in_err-check.ensures.answer in
     rw (p.1, p.2) (record {
       done = deals g.C.Catalogue.entries g.C.Catalogue.lawful b b _ refl refl (check_fails es (view b.table) c.args.number _ _ h f);
       steps = unsound f;
@@ -35,7 +35,7 @@ returns g c =
     let b = c.args.self.now in
     let es = g.C.Catalogue.entries b.catalogue in
     let h : c.args.number < length (view b.table).rows = omega (arith, c.count.ensures.rows, c.if-number-count.false) in
-    let f = subst (λ (ts : List TermNode). Checked (entered es) (kept_lists (view b.table)) ts c.args.list.now c.args.places.now) c.term-term.ensures c.in_ok-checked.ensures.answer in
+    let f = subst (λ (ts : List TermNode). Checked (entered es) (kept_lists (view b.table)) ts c.args.list.now c.args.places.now) c.term-formula.ensures c.in_ok-check.ensures.answer in
     record {
       done = deals g.C.Catalogue.entries g.C.Catalogue.lawful b b _ refl refl (check_passes es (view b.table) c.args.number _ _ h f);
       steps = f;
