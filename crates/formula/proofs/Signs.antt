@@ -5,7 +5,7 @@ use Rattle.text.specs.Lexing.{sign_of}
 use Rattle.text.specs.declared.token.Token.{Token}
 use Rattle.text.specs.declared.token.Token.TheVariants.{Lambda, Dot, Open, Close, Name, Reference}
 use Rattle.grammar.specs.Grammar.{Tree}
-use Rattle.grammar.specs.Machine.{Frames, start, binder, before_dot, after, dead, step}
+use Rattle.grammar.specs.Machine.{Frames, start, before_dot, after, dead, step}
 
 -- a number for each sign tells them apart
 abbrev rank : Sign → ℕ
@@ -42,14 +42,6 @@ dot_stuck w o k Open at h = refl
 dot_stuck w o k Close at h = refl
 dot_stuck w o k (Name v) at h = refl
 dot_stuck w o k (Reference n) at h = refl
-
-pub binder_stuck : (k : Frames) (t : Token) (at : ℕ) → ((v : Bor (List ℕ)) → t ≡ Name v → ⊥) → step (binder k) (sign_of t) at ≡ dead
-binder_stuck k Lambda at h = refl
-binder_stuck k Dot at h = refl
-binder_stuck k Open at h = refl
-binder_stuck k Close at h = refl
-binder_stuck k (Name v) at h = absurd (h v refl)
-binder_stuck k (Reference n) at h = refl
 
 pub start_stuck : (k : Frames) (t : Token) (at : ℕ) → (t ≡ Lambda → ⊥) → ((v : Bor (List ℕ)) → t ≡ Name v → ⊥) → ((n : ℕ) → t ≡ Reference n → ⊥) → (t ≡ Open → ⊥) → step (start k) (sign_of t) at ≡ dead
 start_stuck k Lambda at l n r o = absurd (l refl)

@@ -29,12 +29,6 @@ resolved_nodes refers = refl
 resolved_nodes (binds r) = omega (arith, resolved_nodes r)
 resolved_nodes (applies {f = f} {a = a} r s) = omega (arith, resolved_nodes r, resolved_nodes s, length-append (prefix f) (prefix a))
 
-nodes_some : (t : Tree) → 0 < nodes t
-nodes_some (named w o) = omega arith
-nodes_some (referred n o) = omega arith
-nodes_some (abstracted w o t) = omega arith
-nodes_some (applied t u) = omega arith
-
 settled_names : (es : List Entry) (scope : List Name) (w : Name) (place : ℕ) (out out' : List TermNode) (u : Option ℕ) → Settled es scope w place out out' u → Fails (Known es) (λ u. u.at) (uses scope (named w place)) u
 settled_names es scope w place out out' None s = (s.0 place, tt)
 settled_names es scope w place out out' (Some p) s = fails_one (Known es) (λ u. u.at) _ p s.0 (s.1 place)

@@ -1,7 +1,7 @@
 -- What the reader sees of the next token, in the words of the tokens that are left.
-use Rattle.std.proofs.Common.{◌≡◌, ℕ, List, [], ◌∷◌, length, Some, None, Ok, Err, Option, sym, refl, ap, ◌∙◌, subst, inr, arith, Bor}
+use Rattle.std.proofs.Common.{◌≡◌, ℕ, List, [], ◌∷◌, length, Some, None, Ok, Err, Option, sym, refl, ap, ◌∙◌, subst, inr, arith}
 use Rattle.std.specs.Option.{ok_or}
-use Rattle.text.specs.Tokens.{Sign, Token, token, lambda, dot, closing, name, Rest}
+use Rattle.text.specs.Tokens.{Sign, Token, token, lambda, closing, Rest}
 use Rattle.text.specs.Lexing.{Next, Found, sign_of}
 use Rattle.text.specs.declared.token.Token.{Token as Cut}
 use Rattle.text.specs.declared.token.Lexeme.{Lexeme}
@@ -97,15 +97,7 @@ blames_later text from x end h q (Misplaced a) {p} e ts r b =
     subst (λ l. Halts q l (length text) a) (sym m.2) (halts_later q (p m.0) (token x m.0 ∷ []) m.1 (length text) a (e m.0) (b m.0 m.1 m.3))
 blames_later text from x end h q (Stray a) {p} e ts r b = let m = h.reads ts r in b m.0 m.1 m.3
 
--- a name and a dot, and a `\` before them
-pub binder_read : (text : List ℕ) (from : ℕ) (w : Bor (List ℕ)) (mid end : ℕ) → Reads text from (name w.now) mid → Reads text mid dot end → BinderRead text from (record { name = w; end = end })
-binder_read text from w mid end n d =
-    record {
-      less = omega (arith, n.less, d.less);
-      within = d.within;
-      reads = λ ts r. let a = n.reads ts r in let b = d.reads a.1 a.3 in (a.0, b.0, b.1, a.2 ∙ ap (λ l. token (name w.now) a.0 ∷ l) b.2, b.3);
-    }
-
+-- a `\`, and a name and a dot behind it
 pub head_read : (text : List ℕ) (from mid : ℕ) (h : Head) → Reads text from lambda mid → BinderRead text mid h → HeadRead text from h
 head_read text from mid h l b =
     record {

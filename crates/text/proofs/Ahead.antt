@@ -1,5 +1,5 @@
 -- From one place of a text there is one reading: a reading to the end goes on from wherever another has come.
-use Rattle.std.proofs.Common.{◌≡◌, ℕ, suc, ◌<◌, ◌≤◌, false, cond, eqb, List, [], ◌∷◌, ◌++◌, length, drop, Some, None, Ok, Err, Option, sym, refl, ap, ◌∙◌, subst, append-nil, arith, length-take}
+use Rattle.std.proofs.Common.{◌≡◌, ℕ, suc, ◌<◌, ◌≤◌, false, cond, eqb, List, [], ◌∷◌, ◌++◌, drop, Some, None, Ok, Err, Option, sym, refl, ap, ◌∙◌, subst, append-nil, arith, length-take}
 use borrow.Author.Tests.{eqb-false}
 use Rattle.text.specs.declared.token.Lexeme.{Lexeme}
 use Rattle.text.specs.Bytes.{class_of, in_name}
@@ -128,6 +128,3 @@ module _ (text : List ℕ) (o : ℕ) (ts : List Token) (r : Rest text o ts) wher
   pub rest_refused : (f : TextFault) → Next text o (Err f) → ⊥
   rest_refused (fault.Stray p) s = stops s.stray (ahead s.before r).2
   rest_refused (fault.Misplaced p) s = s
-
-pub next_advances : (text : List ℕ) (o : ℕ) (n : Option Lexeme) (x : Lexeme) → n ≡ Some x → Next text o (Ok n) → (o < x.end) × (x.end ≤ length text)
-next_advances text o n x e s = let f = subst (λ m. Next text o (Ok m)) e s in (f.less, f.within)

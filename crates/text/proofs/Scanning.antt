@@ -1,6 +1,6 @@
 -- Laws of reading a text as tokens: readings join, and from one place there is only one.
-use Rattle.std.proofs.Common.{◌≡◌, ℕ, suc, ◌+◌, ◌-◌, ◌<◌, true, false, cond, List, [], ◌∷◌, ◌++◌, length, get_or, take, drop, Some, sym, ap, ◌∙◌, subst, arith}
-use Rattle.std.proofs.lemmas.List.{drop_more, drop-drop, drop_all}
+use Rattle.std.proofs.Common.{◌≡◌, ℕ, suc, ◌+◌, ◌-◌, ◌<◌, true, cond, List, [], ◌∷◌, ◌++◌, length, get_or, take, drop, Some, sym, ap, ◌∙◌, subst, arith}
+use Rattle.std.proofs.lemmas.List.{drop_more, drop-drop}
 use Rattle.text.specs.Bytes.{class_of, in_name}
 use Rattle.text.specs.Words.{lead, run, IsName, IsNumber}
 use Rattle.text.specs.Tokens.{Sign, Token, token, name, reference, single, Scans, here, space, mark, word, number, Stray, other, no_name, no_number}
@@ -15,16 +15,9 @@ join (mark e r) s = mark e (join r s)
 join (word w r) s = word w (join r s)
 join (number e w r) s = number e w (join r s)
 
--- one byte more, and its step
-pub join_one : (text : List ℕ) (o p q : ℕ) (us vs : List Token) → p < length text → Scans o (drop o text) us p (drop p text) → Scans p (get_or text p 0 ∷ drop (p + 1) text) vs q (drop q text) → Scans o (drop o text) (us ++ vs) q (drop q text)
-join_one text o p q us vs h r s = join r (subst (λ l. Scans p l vs q (drop q text)) (sym (drop_more text p 0 h)) s)
-
--- one byte more of a run, and none
+-- one byte more of a run
 pub lead_more : (text : List ℕ) (o : ℕ) → o < length text → in_name (class_of (get_or text o 0)) ≡ true → lead (drop o text) ≡ suc (lead (drop (o + 1) text))
 lead_more text o h e = ap lead (drop_more text o 0 h) ∙ ap (λ b. cond b (suc (lead (drop (o + 1) text))) 0) e
-
-pub lead_stops : (text : List ℕ) (o : ℕ) → o < length text → in_name (class_of (get_or text o 0)) ≡ false → lead (drop o text) ≡ 0
-lead_stops text o h e = ap lead (drop_more text o 0 h) ∙ ap (λ b. cond b (suc (lead (drop (o + 1) text))) 0) e
 
 pub lead_some : (text : List ℕ) (o : ℕ) → o < length text → in_name (class_of (get_or text o 0)) ≡ true → 0 < lead (drop o text)
 lead_some text o h e = omega (arith, lead_more text o h e)
@@ -65,7 +58,3 @@ stray_other text o h e = subst Stray (sym (drop_more text o 0 h)) (other e)
 -- spaces passed over, and then a token
 pub join_found : (text : List ℕ) (o p : ℕ) (x : Lexeme) → Passed text o p → Found text p x → Found text o x
 join_found text o p x s f = record { less = omega (arith, s.reached, f.less); within = f.within; scans = join s.scans f.scans }
-
-pub passed_all : (text : List ℕ) (o p : ℕ) → Passed text o p → p ≡ length text → Scans o (drop o text) [] (length text) []
-passed_all text o p s e =
-    subst (λ l. Scans o (drop o text) [] (length text) l) (drop_all (length text) text (omega arith)) (subst (λ k. Scans o (drop o text) [] k (drop k text)) e s.scans)

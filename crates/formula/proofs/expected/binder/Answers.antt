@@ -1,17 +1,11 @@
 use Rattle.std.proofs.Common.{◌≡◌, refl, ap, ⊎_elim, rules}
 use Rattle.text.proofs.Exits.{exit_is}
-use Rattle.text.specs.declared.token.Token.TheVariants.{Name, Dot}
+use Rattle.text.specs.declared.token.Token.TheVariants.{Name}
 use Rattle.text.specs.Lexing.{sign_of}
 use Rattle.grammar.specs.Machine.{binder, before_dot, step}
-use Rattle.formula.proofs.Signs.{binder_stuck, dot_stuck}
-use Rattle.formula.proofs.Tokens.{blames_end, blames_other, blames_later, binder_read}
+use Rattle.formula.proofs.Signs.{dot_stuck}
+use Rattle.formula.proofs.Tokens.{blames_end, blames_other, blames_later}
 use Rattle.formula.proofs.expected.binder.Goals as goal
-
-pub returns-in_err-name : goal.returns-in_err-name
-returns-in_err-name c =
-    rw (exit_is c.from_residual.result _ c.from_residual.ensures.1) (λ ts r k. ⊎_elim (λ e. blames_end (binder k) ts _ _ e tt refl)
-    (λ s. blames_other (binder k) ts _ _ s.0 s.1 s.2 s.3 s.4 tt (binder_stuck k s.0 s.1 (λ v e. let m = s.5 in search rules)))
-    (c.in_err-name.ensures ts r))
 
 pub returns-in_err-end : goal.returns-in_err-end
 returns-in_err-end c =
@@ -22,11 +16,3 @@ returns-in_err-end c =
     (λ o us r. ⊎_elim (λ e. blames_end (before_dot c.in_ok-name.name.now o k) us _ _ e tt refl)
     (λ s. blames_other (before_dot c.in_ok-name.name.now o k) us _ _ s.0 s.1 s.2 s.3 s.4 tt (dot_stuck _ _ k s.0 s.1 (λ e. let m = s.5 in search rules)))
     (c.in_err-end.ensures us r)))
-
-pub returns : goal.returns
-returns c =
-    let name = c.in_ok-name.ensures in
-    let dot = c.in_ok-end.ensures in
-    let is : name.0 ≡ Name c.in_ok-name.name = search rules in
-    let then : dot.0 ≡ Dot = search rules in
-    binder_read _ _ _ _ _ (rw is at name.2) (rw then at dot.2)

@@ -1,12 +1,8 @@
-use Rattle.std.proofs.Common.{◌≡◌, refl, inl}
+use Rattle.std.proofs.Common.{◌≡◌, refl}
 use Rattle.text.proofs.Exits.{exit_is}
 use Rattle.text.specs.declared.fault.TextFault.TheVariants.{Misplaced}
 use Rattle.formula.proofs.Tokens.{reads_sign, nothing_made}
 use Rattle.formula.proofs.expected.take.Goals as goal
-
-pub returns-in_err-found : goal.returns-in_err-found
-returns-in_err-found g c =
-    rw (exit_is c.from_residual.result _ c.from_residual.ensures.1) (λ ts r. inl (c.in_err-found.ensures ts r))
 
 pub returns-in_err-made : goal.returns-in_err-made
 returns-in_err-made g c =

@@ -1,5 +1,5 @@
-use Rattle.std.proofs.Common.{◌≡◌, ℕ, ◌+◌, ◌-◌, ◌*◌, ◌<◌, List, [], ◌∷◌, ◌++◌, length, get_or, take, sym, refl, ap, ◌∙◌, ⊎_elim, arith, below_more, false-eqb}
-use Rattle.std.proofs.lemmas.List.{take_more, take_all}
+use Rattle.std.proofs.Common.{◌≡◌, ℕ, ◌+◌, ◌-◌, ◌*◌, ◌<◌, List, [], ◌∷◌, ◌++◌, length, get_or, take, sym, refl, ap, ◌∙◌, arith, below_more}
+use Rattle.std.proofs.lemmas.List.{take_more}
 use Rattle.text.specs.Words.{numeral}
 use Rattle.text.proofs.ByteFacts.{digit_range}
 use Rattle.text.proofs.words.number.Goals as goal
@@ -24,16 +24,3 @@ loop-byte-preserved c =
       λ h. omega (arith, inv.3 (omega arith), d.1, r.1),
       omega (arith, inv.4 (omega arith), d.1, r.1),
     )
-
-pub returns : goal.returns
-returns c =
-    let w = c.args.word.now in
-    let inv = c.loop-byte.invariant in
-    let all : c.loop-byte.byte-index ≡ length w = omega arith in
-    record {
-      some = omega (arith, false-eqb _ 0 c.if-is_empty.ensures);
-      short = omega arith;
-      each = λ i h. inv.0 i (omega arith);
-      plain = λ z. ⊎_elim (λ p. omega (arith, false-eqb _ 0 c.if-is_empty.ensures, p.1)) (λ n. absurd (n z)) c.else-word-eq48.either;
-      value = inv.1 ∙ ap (numeral 0) (take_all c.loop-byte.byte-index w (omega arith));
-    }

@@ -5,11 +5,8 @@ use Rattle.text.specs.Lexing.{Next, Passed, Starts}
 use Rattle.text.specs.declared.fault.TextFault.{TextFault}
 use Rattle.text.specs.declared.fault.TextFault.TheVariants as fault
 use Rattle.text.specs.declared.token.Lexeme.{Lexeme}
-use Rattle.text.proofs.Scanning.{join_found, passed_all}
+use Rattle.text.proofs.Scanning.{join_found}
 use Rattle.text.proofs.lexer.Lexer.next.Goals as goal
-
-pub returns-then-at-self : goal.returns-then-at-self
-returns-then-at-self c = λ h. passed_all _ _ _ c.pass_spaces-at.ensures c.if-at-self.true
 
 -- a token found, as the next one
 found : (text : List ℕ) (o p : ℕ) (r : Result Lexeme TextFault) (m : Result (Option Lexeme) TextFault) → p < length text → Passed text o p → Starts text p r → MatchResult r (λ x. IsOkAnd m (λ s. s ≡ Some x)) (λ e. m ≡ Err e) → Next text o m
