@@ -138,6 +138,7 @@ fn questions_in_order(rt: HostRuntime) -> Result<(), Fail> {
     draft.add(b"x", &hours)?;
     draft.add(b"x", &hours)?;
     assert_eq!(rt; draft.fault(heap)?, Some(FileFault::Repeated(1)));
+    // No constructor makes a node of such a kind.
     let unknown = TypeNode {
         kind: 3,
         left: 0,
