@@ -1,7 +1,7 @@
 // Whether one type is an instance of another, decided on lists of type nodes.
 #![tactic(auto)]
 
-ghost use Rattle.std.specs.Prelude.{◌≡◌, ℕ, ◌+◌, ◌<◌, ◌≤◌, true, length, Decides, None, ◌++◌, ◌∷◌, []};
+ghost use Rattle.std.specs.Prelude.{◌≡◌, ◌<◌, true, length, Decides, []};
 ghost use Rattle.types.specs.Types.{Instance};
 ghost use Rattle.types.specs.Lists.{Lawful, LawfulNode, type_at, meaning};
 ghost use Rattle.instance.specs.Once.{Found, Once, PlacesAreTypes};

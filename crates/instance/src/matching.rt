@@ -1,5 +1,5 @@
 // A special list's type matched against a general list's, node by node.
-ghost use Rattle.std.specs.Prelude.{◌≡◌, ℕ, ◌+◌, ◌-◌, ◌<◌, ◌≤◌, length, Some, None, slice_index_or, slice_set, replicate};
+ghost use Rattle.std.specs.Prelude.{◌≡◌, ◌+◌, ◌-◌, ◌<◌, length, Some, None, slice_set, replicate};
 ghost use Rattle.types.specs.Lists.{Lawful};
 ghost use Rattle.instance.specs.Once.{Once};
 ghost use Rattle.instance.specs.Matching.{Given};

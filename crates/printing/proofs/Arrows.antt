@@ -1,12 +1,11 @@
 -- The text of an arrow, from those of its parts.
-use Rattle.std.proofs.Common.{◌≡◌, ℕ, zero, suc, ◌<◌, Bool, eqb, List, ◌++◌, length, get_or, Some, codes, refl, ap, ap₂, ◌∙◌, arith}
+use Rattle.std.proofs.Common.{◌≡◌, ℕ, zero, suc, ◌<◌, eqb, List, length, get_or, Some, refl, ap, ap₂, ◌∙◌, arith}
 use Rattle.std.proofs.lemmas.Bool.{eq-eqb, cond-true}
 use Rattle.types.specs.declared.TypeNode.{TypeNode}
 use Rattle.types.specs.declared.Shape.TheVariants.{Arrow}
-use Rattle.types.specs.Types.{Ty}
-use Rattle.types.specs.Lists.{zero_node, Lawful, shape, type_at}
+use Rattle.types.specs.Lists.{zero_node, Lawful, type_at}
 use Rattle.types.specs.Shapes.{of_kind, shape_of}
-use Rattle.printing.specs.Text.{left_part, is_arrow, text}
+use Rattle.printing.specs.Text.{text}
 use Rattle.printing.specs.Writing.{arrow_text}
 use Rattle.types.proofs.Reading.{at_branch}
 
@@ -21,14 +20,6 @@ says_arrow (suc zero) left right a b e = absurd (cc)
 says_arrow (suc (suc zero)) left right a b e = record { two = refl; from = (cc); to = (cc) }
 says_arrow (suc (suc (suc k))) left right a b e = absurd (cc)
 
-shape_arrow : (k n : ℕ) (a b : Ty) → is_arrow (shape k n a b) ≡ eqb k 2
-shape_arrow zero n a b = refl
-shape_arrow (suc zero) n a b = refl
-shape_arrow (suc (suc k)) n a b = refl
-
-arrow_at : (l : List TypeNode) (p : ℕ) → is_arrow (type_at l p) ≡ eqb (get_or l p zero_node).kind 2
-arrow_at l p = shape_arrow _ _ _ _
-
 module _ (l : List TypeNode) (law : Lawful l) (p : ℕ) (h : p < length l) where
   abbrev here : TypeNode
   here = get_or l p zero_node
@@ -38,5 +29,4 @@ module _ (l : List TypeNode) (law : Lawful l) (p : ℕ) (h : p < length l) where
       let says = says_arrow here.kind here.left here.right a b e in
       ap text (at_branch l law.each p h (omega (arith, says.two)))
       ∙ cond-true (eqb here.kind 2) _ _ (eq-eqb here.kind 2 says.two)
-      ∙ ap (λ (x : Bool). left_part x (text (type_at l here.left)) ++ (codes " -> " ++ text (type_at l here.right))) (arrow_at l here.left)
       ∙ ap₂ (arrow_text l) says.from says.to

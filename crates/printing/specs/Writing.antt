@@ -1,8 +1,8 @@
 -- The text of a type as it is written, and what a request to print leaves and answers.
-use Rattle.std.specs.Prelude.{◌≡◌, ℕ, ◌+◌, ◌<◌, ◌≤◌, List, ◌++◌, length, drop, Ok, Err, Result, codes, ◌==◌, slice_index_or}
+use Rattle.std.specs.Prelude.{◌≡◌, ℕ, ◌+◌, ◌<◌, ◌≤◌, List, ◌++◌, length, drop, Ok, Err, Result, codes}
 use Rattle.types.specs.declared.TypeNode.{TypeNode}
-use Rattle.types.specs.Lists.{zero_node, Lawful, type_at, meaning}
-use Rattle.printing.specs.Text.{left_part, text}
+use Rattle.types.specs.Lists.{Lawful, type_at, meaning}
+use Rattle.printing.specs.Text.{left_text, text}
 use Rattle.arrayvec.specs.ArrayString.{ArrayString}
 use Rattle.printing.specs.declared.ShowFault.{ShowFault}
 use Rattle.printing.specs.declared.ShowFault.TheVariants.{Unlawful, TooLong}
@@ -14,7 +14,7 @@ Added before bytes after (Err fault) = (fault ≡ TooLong) × (4096 < length bef
 
 -- the text of the arrow between two places
 abbrev pub arrow_text : List TypeNode → ℕ → ℕ → List ℕ
-arrow_text list left right = left_part ((slice_index_or list left zero_node).kind == 2) (text (type_at list left)) ++ (codes " -> " ++ text (type_at list right))
+arrow_text list left right = left_text (type_at list left) ++ (codes " -> " ++ text (type_at list right))
 
 -- the list is lawful, and this is the text of its type
 pub record Text (list : List TypeNode) (bytes : List ℕ) : Type 0 where

@@ -1,9 +1,9 @@
 // The printed text of a type.
 #![tactic(auto)]
 
-ghost use Rattle.std.specs.Prelude.{◌≡◌, ◌<◌, ◌≤◌, length, slice_index_or};
+ghost use Rattle.std.specs.Prelude.{◌≡◌, ◌<◌, length};
 ghost use Rattle.types.specs.Lists.{Lawful, type_at};
-ghost use Rattle.printing.specs.Text.{letters, unknown, base_names, left_part, text};
+ghost use Rattle.printing.specs.Text.{letters, left_part, is_arrow, text};
 ghost use Rattle.printing.specs.Writing.{Added, arrow_text, Spelled, Shown};
 ghost use Rattle.printing.specs.declared.ShowFault.TheVariants.{TooLong};
 
@@ -50,6 +50,14 @@ fn push_letters(out: &mut TypeText, number: u16) -> Result<(), ShowFault>
     Ok(())
 }
 
+// Whether the type at a place is an arrow, and stands in brackets as the left part of one.
+fn needs_brackets(list: &[TypeNode], place: u16) -> bool
+    requires { place < length list.now }
+    ensures { result ≡ is_arrow (type_at list.now place) }
+{
+    matches!(list[place as usize].shape(), Some(Shape::Arrow(_, _)))
+}
+
 // Puts the text at a place behind a text.
 #[cycle(push_type)]
 fn push_type(out: &mut TypeText, list: &[TypeNode], place: u16) -> Result<(), ShowFault>
@@ -76,7 +84,7 @@ fn push_arrow(out: &mut TypeText, list: &[TypeNode], left: u16, right: u16) -> R
     requires right { right < length list.now }
     ensures { Added out.old.bytes (arrow_text list.now left right) out.new.bytes result }
 {
-    let in_brackets = matches!(list[left as usize].shape(), Some(Shape::Arrow(_, _)));
+    let in_brackets = needs_brackets(list, left);
     push_left(out, list, left, in_brackets)?;
     out.try_push_str(" -> ")?;
     push_type(out, list, right)
