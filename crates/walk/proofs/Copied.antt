@@ -180,8 +180,3 @@ module _ (l m : List TypeNode) (law : Lawful l) (fits : length l ≤ length m) (
         count = listed.count ∙ ap length e;
         list = listed.list ∙ ap (λ (r : List TypeNode). r ++ replicate (length memory - n) zero_node) e;
       }
-
--- the one root is the last place
-pub only_root : (n : ℕ) → 0 < n → (k : ℕ) → k < 1 → get_or ((n - 1) ∷ []) k 0 < n
-only_root n h zero l = omega arith
-only_root n h (suc k) l = absurd (omega arith)

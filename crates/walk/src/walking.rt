@@ -77,6 +77,7 @@ impl<'a> Walk<'a> {
         }
     }
 
+    // What is known of a class, by the node that stands for it.
     fn mark(&self, i: u16) -> Mark
         requires inside { i < length self.now.marks.now }
         requires few { slice_index self.now.marks.now i < 65538 }
