@@ -1,4 +1,5 @@
 pub mod Spans
+pub mod Binders
 pub mod Standing
 pub mod Typings
 pub mod Arrows

@@ -1,9 +1,12 @@
 -- Where the subterms of nodes in prefix order end, and which abstractions are around a node.
-use Rattle.std.proofs.Common.{◌≡◌, ℕ, zero, suc, ◌+◌, ◌<◌, ◌≤◌, Bool, true, false, cond, ◌≢◌, ◌⊎◌, List, [], ◌∷◌, length, get_or, drop, set, Some, None, Option, sym, refl, ap, ◌∙◌, subst, ap₂, inl, inr, ⊎_elim, arith}
-use Rattle.std.proofs.lemmas.List.{drop_all, drop_more, drop-drop, length-drop, length-set, get_or-set_same, get_or-set_other}
+use Rattle.std.proofs.Common.{◌≡◌, ℕ, zero, suc, ◌+◌, ◌-◌, ◌<◌, ◌≤◌, Bool, true, false, cond, ◌≢◌, ◌⊎◌, List, [], ◌∷◌, length, get_or, take, drop, set, Some, None, Option, add-zero, sym, refl, ap, ◌∙◌, subst, ap₂, inl, inr, ⊎_elim, arith}
+use Rattle.std.proofs.lemmas.List.{take_all, drop_all, drop_more, drop-drop, length-drop, length-set, get_or-set_same, get_or-set_other}
 use Rattle.std.proofs.lemmas.Bool.{cases_eq}
 use Rattle.term.specs.Terms.{zero_node}
+use Rattle.term.specs.Symbols.{symbol_of}
 use Rattle.term.specs.declared.TermNode.{TermNode}
+use Rattle.term.specs.declared.Symbol.{Symbol}
+use Rattle.term.specs.declared.Symbol.TheVariants.{Variable, Abstraction, Application, Primitive, Reference}
 use Rattle.derivation_check.specs.Prefixes.{arity, span, end, opens, binder}
 
 pub span_nil : (n : ℕ) → span n [] ≡ 0
@@ -13,7 +16,7 @@ span_nil (suc n) = refl
 pub span_fits : (n : ℕ) (ts : List TermNode) → span n ts ≤ length ts
 span_fits zero ts = omega arith
 span_fits (suc n) [] = omega arith
-span_fits (suc n) (t ∷ ts) = let h = span_fits (arity t.kind + n) ts in omega (arith, h)
+span_fits (suc n) (t ∷ ts) = let h = span_fits (arity (symbol_of t) + n) ts in omega (arith, h)
 
 -- m terms and n terms
 pub span_add : (ts : List TermNode) (m n : ℕ) → span (m + n) ts ≡ span m ts + span n (drop (span m ts) ts)
@@ -23,99 +26,67 @@ span_add (t ∷ ts) zero n =
     let z : span n (t ∷ ts) ≡ 0 + span n (t ∷ ts) = omega arith in
     ap (λ (k : ℕ). span k (t ∷ ts)) e ∙ z
 span_add (t ∷ ts) (suc m) n =
-    let e : arity t.kind + (m + n) ≡ (arity t.kind + m) + n = omega arith in
+    let e : arity (symbol_of t) + (m + n) ≡ (arity (symbol_of t) + m) + n = omega arith in
     let f : suc m + n ≡ suc (m + n) = omega arith in
-    let g = ap (λ (k : ℕ). span k ts) e ∙ span_add ts (arity t.kind + m) n in
+    let g = ap (λ (k : ℕ). span k ts) e ∙ span_add ts (arity (symbol_of t) + m) n in
     ap (λ (k : ℕ). span k (t ∷ ts)) f ∙ omega (arith, g)
 
-pub span_at : (ts : List TermNode) (i n : ℕ) → i < length ts → span (suc n) (drop i ts) ≡ suc (span (arity (get_or ts i zero_node).kind + n) (drop (i + 1) ts))
+-- one term more
+pub span_more : (ts : List TermNode) (n : ℕ) → end ts (span n ts) ≡ span (n + 1) ts
+span_more ts n = sym (span_add ts n 1)
+
+pub span_at : (ts : List TermNode) (i n : ℕ) → i < length ts → span (suc n) (drop i ts) ≡ suc (span (arity (symbol_of (get_or ts i zero_node)) + n) (drop (i + 1) ts))
 span_at ts i n h = ap (span (suc n)) (drop_more ts i zero_node h)
-
-pub end_past : (ts : List TermNode) (i : ℕ) → length ts ≤ i → end ts i ≡ i
-end_past ts i h = let e = ap (span 1) (drop_all i ts h) in omega (arith, e)
-
-pub end_leaf : (ts : List TermNode) (i : ℕ) → i < length ts → arity (get_or ts i zero_node).kind ≡ 0 → end ts i ≡ i + 1
-end_leaf ts i h z =
-    let e = span_at ts i 0 h in
-    let f = ap (λ (k : ℕ). span (k + 0) (drop (i + 1) ts)) z in
-    omega (arith, e, f)
-
-pub end_one : (ts : List TermNode) (i : ℕ) → i < length ts → arity (get_or ts i zero_node).kind ≡ 1 → end ts i ≡ end ts (i + 1)
-end_one ts i h z =
-    let e = span_at ts i 0 h in
-    let f = ap (λ (k : ℕ). span (k + 0) (drop (i + 1) ts)) z in
-    omega (arith, e, f)
-
-pub end_two : (ts : List TermNode) (i : ℕ) → i < length ts → arity (get_or ts i zero_node).kind ≡ 2 → end ts i ≡ end ts (end ts (i + 1))
-end_two ts i h z =
-    let e = span_at ts i 0 h in
-    let f = ap (λ (k : ℕ). span (k + 0) (drop (i + 1) ts)) z in
-    let g = span_add (drop (i + 1) ts) 1 1 in
-    let d = ap (span 1) (drop-drop (span 1 (drop (i + 1) ts)) (i + 1) ts) in
-    omega (arith, e, f, g, d)
 
 pub end_fits : (ts : List TermNode) (i : ℕ) → i ≤ length ts → end ts i ≤ length ts
 end_fits ts i h = let s = span_fits 1 (drop i ts) in omega (arith, s, length-drop i ts)
 
-pub end_after : (ts : List TermNode) (i : ℕ) → i ≤ end ts i
-end_after ts i = omega arith
+arity_few : (s : Option Symbol) → arity s ≤ 2
+arity_few None = omega arith
+arity_few (Some (Variable n)) = omega arith
+arity_few (Some Abstraction) = omega arith
+arity_few (Some Application) = omega arith
+arity_few (Some (Primitive n)) = omega arith
+arity_few (Some (Reference n)) = omega arith
 
-arity_leaf : (k : ℕ) → k ≢ 1 → k ≢ 2 → arity k ≡ 0
-arity_leaf zero a b = refl
-arity_leaf (suc zero) a b = absurd (a refl)
-arity_leaf (suc (suc zero)) a b = absurd (b refl)
-arity_leaf (suc (suc (suc k))) a b = refl
+-- n terms are still to come after the first j nodes of a walk
+pub record Walked (ts : List TermNode) (j n : ℕ) : Type 0 where
+  pub few : n ≤ j + 1
+  pub rest : j + span n (drop j ts) ≡ span 1 ts
 
-module _ (ts : List TermNode) (i : ℕ) (h : i < length ts) where
-  pub end_other : (get_or ts i zero_node).kind ≢ 1 → (get_or ts i zero_node).kind ≢ 2 → end ts i ≡ i + 1
-  end_other a b = end_leaf ts i h (arity_leaf (get_or ts i zero_node).kind a b)
-
-  pub end_abs : (get_or ts i zero_node).kind ≡ 1 → end ts i ≡ end ts (i + 1)
-  end_abs e = end_one ts i h (ap arity e)
-
-  pub end_app : (get_or ts i zero_node).kind ≡ 2 → end ts i ≡ end ts (end ts (i + 1))
-  end_app e = end_two ts i h (ap arity e)
-
-arity_few : (k : ℕ) → arity k ≤ 2
-arity_few zero = omega arith
-arity_few (suc zero) = omega arith
-arity_few (suc (suc zero)) = omega arith
-arity_few (suc (suc (suc k))) = omega arith
-
--- n terms are still to come after the place j of a walk from i
-pub record Walked (ts : List TermNode) (i j n : ℕ) : Type 0 where
-  pub inside : j ≤ length ts
-  pub from : i ≤ j
-  pub few : i + n ≤ j + 1
-  pub rest : j + span n (drop j ts) ≡ end ts i
-
-module _ (ts : List TermNode) (i j n : ℕ) (w : Walked ts i j n) where
-  pub walked_more : (m k : ℕ) → j < length ts → m + 1 ≡ n → arity (get_or ts j zero_node).kind ≡ k → Walked ts i (j + 1) (m + k)
+module _ (ts : List TermNode) (j n : ℕ) (w : Walked ts j n) where
+  pub walked_more : (m k : ℕ) → j < length ts → m + 1 ≡ n → arity (symbol_of (get_or ts j zero_node)) ≡ k → Walked ts (j + 1) (m + k)
   walked_more m k h e a =
-      let few : k ≤ 2 = subst (λ (x : ℕ). x ≤ 2) a (arity_few (get_or ts j zero_node).kind) in
+      let few : k ≤ 2 = subst (λ (x : ℕ). x ≤ 2) a (arity_few (symbol_of (get_or ts j zero_node))) in
       let n-is : n ≡ suc m = omega arith in
-      let order : arity (get_or ts j zero_node).kind + m ≡ m + k = omega (arith, a) in
+      let order : arity (symbol_of (get_or ts j zero_node)) + m ≡ m + k = omega (arith, a) in
       let s = ap (λ (x : ℕ). span x (drop j ts)) n-is ∙ span_at ts j m h ∙ ap (λ (x : ℕ). suc (span x (drop (j + 1) ts))) order in
-      record { inside = omega arith; from = omega (arith, w.from); few = omega (arith, w.few); rest = omega (arith, s, w.rest) }
+      record { few = omega (arith, w.few); rest = omega (arith, s, w.rest) }
 
-  pub walked_all : (n ≡ 0) ⊎ (length ts ≤ j) → j ≡ end ts i
+  pub walked_all : (n ≡ 0) ⊎ (length ts ≤ j) → j ≡ span 1 ts
   walked_all (inl z) = let s = ap (λ (x : ℕ). span x (drop j ts)) z in omega (arith, s, w.rest)
   walked_all (inr h) = let s = ap (span n) (drop_all j ts h) ∙ span_nil n in omega (arith, s, w.rest)
 
--- the ends are noted from i on
-pub record Noted (ts : List TermNode) (es : List ℕ) (i : ℕ) : Type 0 where
-  pub inside : i ≤ length es
-  pub each : (k : ℕ) → i ≤ k → k < length es → get_or es k 0 ≡ end ts k
+-- the sizes are noted from i on
+pub record Noted (ts : List TermNode) (ss : List ℕ) (i : ℕ) : Type 0 where
+  pub short : length ss ≤ length ts
+  pub inside : i ≤ length ss
+  pub each : (k : ℕ) → i ≤ k → k < length ss → get_or ss k 0 ≡ span 1 (drop k ts)
 
-pub noted_more : (ts : List TermNode) (es : List ℕ) (i j e : ℕ) → j + 1 ≡ i → Noted ts es i → e ≡ end ts j → Noted ts (set es j e) j
-noted_more ts es i j e q noted is =
-    let long = length-set es j e in
+pub noted_more : (ts : List TermNode) (ss : List ℕ) (i j p r : ℕ) → 0 < i → i - 1 ≡ j → Noted ts ss i → p ≡ arity (symbol_of (get_or ts j zero_node)) → r ≡ span p (take (length ts - (j + 1)) (drop (j + 1) ts)) → Noted ts (set ss j (1 + r)) j
+noted_more ts ss i j p r some below noted parts is =
+    let h : j < length ts = omega (arith, noted.short, noted.inside) in
+    let rest : take (length ts - (j + 1)) (drop (j + 1) ts) ≡ drop (j + 1) ts = take_all (length ts - (j + 1)) (drop (j + 1) ts) (omega (arith, length-drop (j + 1) ts)) in
+    let size : r ≡ span (arity (symbol_of (get_or ts j zero_node))) (drop (j + 1) ts) = is ∙ ap₂ span parts rest in
+    let whole : 1 + r ≡ span 1 (drop j ts) = omega (arith, size, span_at ts j 0 h, ap (λ (x : ℕ). span x (drop (j + 1) ts)) (add-zero (arity (symbol_of (get_or ts j zero_node))))) in
+    let long = length-set ss j (1 + r) in
     record {
+      short = omega (arith, noted.short, long);
       inside = omega (arith, noted.inside, long);
       each = λ k a b.
           ⊎_elim
-          (λ (z : k ≡ j). subst (λ (x : ℕ). get_or (set es j e) x 0 ≡ end ts x) (sym z) (get_or-set_same es j e 0 (omega (arith, noted.inside)) ∙ is))
-          (λ (n : k ≢ j). get_or-set_other es j k e 0 n ∙ noted.each k (omega arith) (omega (arith, long)))
+          (λ (z : k ≡ j). subst (λ (x : ℕ). get_or (set ss j (1 + r)) x 0 ≡ span 1 (drop x ts)) (sym z) (get_or-set_same ss j (1 + r) 0 (omega (arith, noted.inside)) ∙ whole))
+          (λ (n : k ≢ j). get_or-set_other ss j k (1 + r) 0 n ∙ noted.each k (omega arith) (omega (arith, long)))
           (cases_eq k j);
     }
 

@@ -3,8 +3,9 @@ use Rattle.std.proofs.Common.{◌≡◌, ℕ, zero, suc, ◌+◌, ◌-◌, ◌<�
 use Rattle.std.proofs.lemmas.List.{append_assoc, drop_more, drop-drop, length-drop}
 use Rattle.std.proofs.lemmas.Bool.{cases_eq, cases_Bool, lt-ltb, le-ltb, ltb-true, and_left, and_right, and_from, eq-eqb, ne_eqb}
 use Rattle.term.specs.Terms.{Term, variable, abstraction, application, primitive, reference, prefix, zero_node}
+use Rattle.term.specs.Symbols.{symbol_of}
 use Rattle.term.specs.declared.TermNode.{TermNode}
-use Rattle.derivation_check.specs.Prefixes.{arity, span, end, opens, binder}
+use Rattle.derivation_check.specs.Prefixes.{arity, is_abstraction, span, end, opens, binder}
 use Rattle.derivation_check.proofs.Spans.{span_add}
 
 -- the n-th of a list, if there is one
@@ -53,7 +54,7 @@ nest (x ∷ xs) (suc n) zero h =
     let g = ap (λ (m : ℕ). span m (x ∷ xs)) e in
     omega (arith, f, g)
 nest (x ∷ xs) (suc n) (suc i) h =
-    let r = nest xs (arity x.kind + n) i (omega (arith, h)) in
+    let r = nest xs (arity (symbol_of x) + n) i (omega (arith, h)) in
     omega (arith, r)
 
 same_ltb : (a b c : ℕ) → (a < c → b < c) → (b < c → a < c) → ltb a c ≡ ltb b c
@@ -124,7 +125,7 @@ module _ (ts : List TermNode) where
   -- an abstraction before i is around j exactly when it is around i, where j stands in the term at i
   around : (i j : ℕ) → i ≤ j → j < end ts i → (b : ℕ) → b < i → opens ts j b ≡ opens ts i b
   around i j h l b lt =
-      ap (λ (t : Bool). eqb (get_or ts b zero_node).kind 1 && t)
+      ap (λ (t : Bool). is_abstraction (symbol_of (get_or ts b zero_node)) && t)
       (same_ltb j i (end ts b) (λ x. omega (arith, x, h)) (λ x. let r = nest_end b i (omega arith) x in omega (arith, r, l)))
 
   -- abstractions that are not around j are passed over
@@ -141,26 +142,24 @@ module _ (ts : List TermNode) where
   scope_same : (i c : ℕ) (bs : List ℕ) → i + c < end ts i → ((b : ℕ) → i ≤ b → b < i + c → opens ts (i + c) b ≡ false) → Scope i bs → Scope (i + c) bs
   scope_same i c bs l f s n = pass_over (i + c) i c n f ∙ same_binder (i + c) i i n (around i (i + c) (omega arith) l) ∙ s n
 
-  pub scope_more : (i : ℕ) (bs : List ℕ) → i + 1 < end ts i → (get_or ts i zero_node).kind ≡ 1 → Scope i bs → Scope (i + 1) (i ∷ bs)
+  pub scope_more : (i : ℕ) (bs : List ℕ) → i + 1 < end ts i → is_abstraction (symbol_of (get_or ts i zero_node)) ≡ true → Scope i bs → Scope (i + 1) (i ∷ bs)
   scope_more i bs l k s n = ap (λ (j : ℕ). binder ts (i + 1) j n) e ∙ go n
     where
       e : i + 1 ≡ suc i
       e = omega arith
 
       o : opens ts (i + 1) i ≡ true
-      o = and_from (eqb (get_or ts i zero_node).kind 1) (ltb (i + 1) (end ts i)) (eq-eqb (get_or ts i zero_node).kind 1 k) (lt-ltb (i + 1) (end ts i) l)
+      o = and_from (is_abstraction (symbol_of (get_or ts i zero_node))) (ltb (i + 1) (end ts i)) k (lt-ltb (i + 1) (end ts i) l)
 
       go : (n : ℕ) → binder ts (i + 1) (suc i) n ≡ nth (i ∷ bs) n
       go zero = ap (λ (t : Bool). cond t (Some i) (binder ts (i + 1) i zero)) o
       go (suc m) = ap (λ (t : Bool). cond t (binder ts (i + 1) i m) (binder ts (i + 1) i (suc m))) o ∙ same_binder (i + 1) i i m (around i (i + 1) (omega arith) l) ∙ s m
 
-  not_abstraction : (j b : ℕ) → (get_or ts b zero_node).kind ≡ 2 → opens ts j b ≡ false
-  not_abstraction j b k =
-      let n : (get_or ts b zero_node).kind ≢ 1 = omega (arith, k) in
-      and_left (eqb (get_or ts b zero_node).kind 1) (ltb j (end ts b)) (ne_eqb (get_or ts b zero_node).kind 1 n)
+  not_abstraction : (j b : ℕ) → is_abstraction (symbol_of (get_or ts b zero_node)) ≡ false → opens ts j b ≡ false
+  not_abstraction j b = and_left (is_abstraction (symbol_of (get_or ts b zero_node))) (ltb j (end ts b))
 
   ended : (j b : ℕ) → end ts b ≤ j → opens ts j b ≡ false
-  ended j b h = and_right (eqb (get_or ts b zero_node).kind 1) (ltb j (end ts b)) (le-ltb j (end ts b) h)
+  ended j b h = and_right (is_abstraction (symbol_of (get_or ts b zero_node))) (ltb j (end ts b)) (le-ltb j (end ts b) h)
 
 -- where the parts of an application at i stand, with the same abstractions around them
 pub record Parts (ts : List TermNode) (f x : Term) (i : ℕ) (rest : List TermNode) (bs : List ℕ) : Type 0 where
@@ -173,7 +172,7 @@ pub record Parts (ts : List TermNode) (f x : Term) (i : ℕ) (rest : List TermNo
 pub parts_of : (ts : List TermNode) (f x : Term) (i : ℕ) (rest : List TermNode) (bs : List ℕ) → At ts (application f x) i rest → Scope ts i bs → Parts ts f x i rest bs
 parts_of ts f x i rest bs at sc =
     let h = here ts i _ _ at in
-    let kind = ap (λ (y : TermNode). y.kind) h.is in
+    let kind = ap (λ (y : TermNode). is_abstraction (symbol_of y)) h.is in
     let size = length-append (prefix f) (prefix x) in
     let whole = end_term ts (application f x) i rest at in
     let atf : At ts f (i + 1) (prefix x ++ rest) = h.behind ∙ append_assoc (prefix f) (prefix x) rest in

@@ -4,11 +4,12 @@ use Rattle.std.proofs.lemmas.List.{append-nil}
 use Rattle.std.proofs.lemmas.Bool.{cases_eq, cases_lt}
 use Rattle.types.specs.Types.{Ty, base, arrow}
 use Rattle.term.specs.Terms.{Term, variable, abstraction, application, primitive, reference, prefix, zero_node}
+use Rattle.term.specs.Symbols.{symbol_of}
 use Rattle.term.specs.declared.TermNode.{TermNode}
 use Rattle.copy.specs.Instances.{Lists}
 use Rattle.infer.specs.Typing.{Typing}
 use Rattle.instance.proofs.Places.{left_of}
-use Rattle.derivation_check.specs.Prefixes.{end}
+use Rattle.derivation_check.specs.Prefixes.{is_abstraction, end}
 use Rattle.derivation_check.specs.Steps.{StepOf, Step, StepsAreTypings}
 use Rattle.derivation_check.proofs.Spans.{some_one, none_some}
 use Rattle.derivation_check.proofs.Standing.{nth, some_nodes, At, Scope, here, at_inside, end_term, scope_more, parts_of}
@@ -33,11 +34,11 @@ arrows_more T Γ bs i α β e f zero h = (i, refl, (β, e))
 arrows_more T Γ bs i α β e f (suc n) h = f n (omega (arith, h))
 
 module _ (E K : Lists) (ts : List TermNode) (T : ℕ → Ty) where
-  step_of : (i : ℕ) (x : TermNode) → get_or ts i zero_node ≡ x → Step E K ts T i → StepOf x.kind x.number E K ts T i
-  step_of i x e s = subst (λ (y : TermNode). StepOf y.kind y.number E K ts T i) e s
+  step_of : (i : ℕ) (x : TermNode) → get_or ts i zero_node ≡ x → Step E K ts T i → StepOf (symbol_of x) E K ts T i
+  step_of i x e s = subst (λ (y : TermNode). StepOf (symbol_of y) E K ts T i) e s
 
-  step_from : (i : ℕ) (x : TermNode) → get_or ts i zero_node ≡ x → StepOf x.kind x.number E K ts T i → Step E K ts T i
-  step_from i x e s = subst (λ (y : TermNode). StepOf y.kind y.number E K ts T i) (sym e) s
+  step_from : (i : ℕ) (x : TermNode) → get_or ts i zero_node ≡ x → StepOf (symbol_of x) E K ts T i → Step E K ts T i
+  step_from i x e s = subst (λ (y : TermNode). StepOf (symbol_of y) E K ts T i) (sym e) s
 
   -- the nodes from i up to j have their steps
   abbrev Between : ℕ → ℕ → Type 0
@@ -54,7 +55,7 @@ module _ (E K : Lists) (ts : List TermNode) (T : ℕ → Ty) where
       let h = here ts i _ _ at in
       let s = step_of i _ h.is (all i (omega arith) (omega arith)) in
       let l : i + 1 < end ts i = omega (arith, end_term ts (abstraction u) i rest at, some_nodes u) in
-      let r = typing_from u (i + 1) rest (i ∷ bs) h.behind (scope_more ts i bs l (ap (λ (x : TermNode). x.kind) h.is) sc) (λ k a b. all k (omega arith) (omega arith)) in
+      let r = typing_from u (i + 1) rest (i ∷ bs) h.behind (scope_more ts i bs l (ap (λ (x : TermNode). is_abstraction (symbol_of x)) h.is) sc) (λ k a b. all k (omega arith) (omega arith)) in
       (s.from, s.typed, subst (λ (a : Ty). Typing E K (a ∷ context T bs) u T (i + 1)) (ap left_of s.typed) r)
   typing_from (application f x) i rest bs at sc all =
       let s = step_of i _ (here ts i _ _ at).is (all i (omega arith) (omega arith)) in
@@ -82,7 +83,7 @@ module _ (E K : Lists) (ts : List TermNode) (T : ℕ → Ty) where
       let l : i + 1 < end ts i = omega (arith, end_term ts (abstraction u) i rest at, some_nodes u) in
       ⊎_elim
       (λ (q : k ≡ i). subst (Step E K ts T) (sym q) (step_from i _ h.is (record { inside = at_inside ts u (i + 1) rest h.behind; from = d.0; typed = d.1 })))
-      (λ (q : k ≢ i). steps_from u (d.0 ∷ Γ) (i + 1) rest (i ∷ bs) h.behind (scope_more ts i bs l (ap (λ (x : TermNode). x.kind) h.is) sc) (arrows_more T Γ bs i d.0 (T (i + 1)) d.1 f) d.2 k (omega arith) (omega arith))
+      (λ (q : k ≢ i). steps_from u (d.0 ∷ Γ) (i + 1) rest (i ∷ bs) h.behind (scope_more ts i bs l (ap (λ (x : TermNode). is_abstraction (symbol_of x)) h.is) sc) (arrows_more T Γ bs i d.0 (T (i + 1)) d.1 f) d.2 k (omega arith) (omega arith))
       (cases_eq k i)
   steps_from (application g x) Γ i rest bs at sc f d k a b =
       let p = parts_of ts g x i rest bs at sc in

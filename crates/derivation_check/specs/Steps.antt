@@ -1,8 +1,11 @@
 -- The typing step of each node of a list in prefix order, and that the steps of a term's nodes are its typings.
-use Rattle.std.specs.Prelude.{◌≡◌, ℕ, zero, suc, ◌+◌, ◌<◌, List, [], length, Some, slice_index_or}
+use Rattle.std.specs.Prelude.{◌≡◌, ℕ, ◌+◌, ◌<◌, List, [], length, Some, None, Option, slice_index_or}
 use Rattle.types.specs.Types.{Ty, arrow}
 use Rattle.term.specs.Terms.{Term, prefix, zero_node}
+use Rattle.term.specs.Symbols.{symbol_of}
 use Rattle.term.specs.declared.TermNode.{TermNode}
+use Rattle.term.specs.declared.Symbol.{Symbol}
+use Rattle.term.specs.declared.Symbol.TheVariants.{Variable, Abstraction, Application, Primitive, Reference}
 use Rattle.copy.specs.Instances.{Lists, OfList}
 use Rattle.infer.specs.Typing.{Typing}
 use Rattle.derivation_check.specs.Prefixes.{end, binder}
@@ -26,17 +29,17 @@ pub record ApplicationStep (ts : List TermNode) (T : ℕ → Ty) (i : ℕ) : Typ
   pub inside : end ts (i + 1) < length ts
   pub typed : T (i + 1) ≡ arrow (T (end ts (i + 1))) (T i)
 
--- what the node i, by its kind and number, asks of the types T of all nodes; a node of another kind has no step
-abbrev pub StepOf : ℕ → ℕ → Lists → Lists → List TermNode → (ℕ → Ty) → ℕ → Type 0
-StepOf zero n E K ts T i = VariableStep ts T i n
-StepOf (suc zero) n E K ts T i = AbstractionStep ts T i
-StepOf (suc (suc zero)) n E K ts T i = ApplicationStep ts T i
-StepOf (suc (suc (suc zero))) n E K ts T i = OfList (E n) (T i)
-StepOf (suc (suc (suc (suc zero)))) n E K ts T i = OfList (K n) (T i)
-StepOf (suc (suc (suc (suc (suc k))))) n E K ts T i = ⊥
+-- what the node i, by what it says, asks of the types T of all nodes; a node that says nothing has no step
+abbrev pub StepOf : Option Symbol → Lists → Lists → List TermNode → (ℕ → Ty) → ℕ → Type 0
+StepOf None E K ts T i = ⊥
+StepOf (Some (Variable n)) E K ts T i = VariableStep ts T i n
+StepOf (Some Abstraction) E K ts T i = AbstractionStep ts T i
+StepOf (Some Application) E K ts T i = ApplicationStep ts T i
+StepOf (Some (Primitive n)) E K ts T i = OfList (E n) (T i)
+StepOf (Some (Reference n)) E K ts T i = OfList (K n) (T i)
 
 abbrev pub Step : Lists → Lists → List TermNode → (ℕ → Ty) → ℕ → Type 0
-Step E K ts T i = StepOf (slice_index_or ts i zero_node).kind (slice_index_or ts i zero_node).number E K ts T i
+Step E K ts T i = StepOf (symbol_of (slice_index_or ts i zero_node)) E K ts T i
 
 -- the first n nodes have their steps
 abbrev pub Steps : Lists → Lists → List TermNode → (ℕ → Ty) → ℕ → Type 0

@@ -1,105 +1,101 @@
 // Where the subterms of a list of term nodes in prefix order end, and which abstraction a variable means.
-ghost use Rattle.std.specs.Prelude.{◌≡◌, ℕ, ◌+◌, ◌<◌, ◌≤◌, length, slice_index};
-ghost use Rattle.derivation_check.specs.Prefixes.{arity, end, opens, binder};
+ghost use Rattle.std.specs.Prelude.{◌≡◌, ℕ, ◌<◌, ◌≤◌, length, drop, slice_index};
+ghost use Rattle.term.specs.Symbols.{symbol_of};
+ghost use Rattle.derivation_check.specs.Prefixes.{arity, span, end, opens, binder};
 
-use term::TermNode;
+use term::{Symbol, TermNode};
 
 // How many parts a node has: an abstraction one, an application two.
 fn parts_of(node: TermNode) -> usize
-    ensures { result ≡ arity node.kind }
+    ensures { result ≡ arity (symbol_of node) }
 {
-    match node.kind {
-        1 => 1,
-        2 => 2,
+    match node.symbol() {
+        Some(Symbol::Abstraction) => 1,
+        Some(Symbol::Application) => 2,
         _ => 0,
     }
 }
 
-// The place after the term that begins at `at`, by a walk over its nodes.
-fn walk(terms: &[TermNode], at: usize) -> usize
-    requires inside { at ≤ length terms.now }
-    ensures { result ≡ end terms.now at }
+// How many nodes the first term of a list takes, by a walk over them.
+fn walk(terms: &[TermNode]) -> usize
+    ensures few { result ≤ length terms.now }
+    ensures is { result ≡ span 1 terms.now }
 {
     let mut missing = 1;
-    let mut next = at;
-    while missing > 0 && next < terms.len() {
-        missing = missing - 1 + parts_of(terms[next]);
-        next += 1;
+    for (next, term) in terms.iter().enumerate() {
+        if missing == 0 {
+            return next;
+        }
+        missing = missing - 1 + parts_of(*term);
     }
-    next
+    terms.len()
 }
 
-// The place after the term that begins at `at`: noted for the nodes that `ends` has room for, else found by a walk.
-pub fn end_at(terms: &[TermNode], ends: &[usize], at: usize) -> usize
-    requires known { at < length ends.now → slice_index ends.now at ≡ end terms.now at }
-    requires inside { at ≤ length terms.now }
-    ensures { result ≡ end terms.now at }
-{
-    if at < ends.len() {
-        ends[at]
-    } else {
-        walk(terms, at)
-    }
+// Term nodes in prefix order, with the sizes of the terms that begin at the first of them.
+#[derive(Clone, Copy)]
+pub struct Prefix<'t, 's> {
+    pub terms: &'t [TermNode],
+    sizes: &'s [usize],
+    ghost known: { (k : ℕ) → k < length sizes.now → slice_index sizes.now k ≡ span 1 (drop k terms.now) },
 }
 
-// The place after the term that begins at `i`, by what is noted for the nodes after `i`.
-fn end_of(terms: &[TermNode], ends: &[usize], i: usize) -> usize
-    requires inside { i < length terms.now }
-    requires known { (k : ℕ) → i + 1 ≤ k → k < length ends.now → slice_index ends.now k ≡ end terms.now k }
-    ensures { result ≡ end terms.now i }
-{
-    let kind = terms[i].kind;
-    if kind == 1 {
-        return end_at(terms, ends, i + 1);
+impl<'t, 's> Prefix<'t, 's> {
+    // Notes the sizes of the terms that begin at the first nodes, from right to left.
+    pub fn new(terms: &'t [TermNode], sizes: &'s mut [usize]) -> Self
+        requires { length sizes.old ≤ length terms.now }
+        ensures { result.terms.now ≡ terms.now }
+    {
+        for i in (0..sizes.len()).rev() {
+            let rest = Prefix {
+                terms: &terms[i + 1..],
+                sizes: &sizes[i + 1..],
+            };
+            let size = 1 + rest.span(parts_of(terms[i]));
+            sizes[i] = size;
+        }
+        Prefix { terms, sizes }
     }
-    if kind == 2 {
-        let argument = end_at(terms, ends, i + 1);
-        return end_at(terms, ends, argument);
-    }
-    i + 1
-}
 
-// Notes where the terms end that begin at the first nodes, from right to left.
-pub fn find_ends(terms: &[TermNode], ends: &mut [usize])
-    requires short { length ends.old ≤ length terms.now }
-    ensures { (k : ℕ) → k < length ends.new → slice_index ends.new k ≡ end terms.now k }
-{
-    let mut i = ends.len();
-    while i > 0 {
-        i -= 1;
-        let end = end_of(terms, ends, i);
-        ends[i] = end;
-    }
-}
-
-// Whether the node `b` is an abstraction around the node `i`.
-fn is_around(terms: &[TermNode], ends: &[usize], i: usize, b: usize) -> bool
-    requires inside { b < length terms.now }
-    requires known { b < length ends.now → slice_index ends.now b ≡ end terms.now b }
-    ensures { result ≡ opens terms.now i b }
-{
-    if terms[b].kind != 1 {
-        return false;
-    }
-    i < end_at(terms, ends, b)
-}
-
-// The abstraction that a variable with the number `number` at `i` means.
-pub fn find_binder(terms: &[TermNode], ends: &[usize], i: usize, number: u16) -> Option<usize>
-    requires inside { i < length terms.now }
-    requires known { (k : ℕ) → k < length ends.now → slice_index ends.now k ≡ end terms.now k }
-    ensures { result ≡ binder terms.now i i number }
-{
-    let mut b = i;
-    let mut between = number;
-    while b > 0 {
-        b -= 1;
-        if is_around(terms, ends, i, b) {
-            if between == 0 {
-                return Some(b);
-            }
-            between -= 1;
+    // The place after the term that begins at `at`: by its size if it is noted, else by a walk.
+    pub fn end_at(&self, at: usize) -> usize
+        requires { at ≤ length self.now.terms.now }
+        ensures { result ≡ end self.now.terms.now at }
+    {
+        let rest = &self.terms[at..];
+        match self.sizes.get(at) {
+            Some(size) => at + *size,
+            None => at + walk(rest),
         }
     }
-    None
+
+    // How many nodes the first `count` terms take.
+    fn span(&self, count: usize) -> usize
+        ensures few { result ≤ length self.now.terms.now }
+        ensures is { result ≡ span count self.now.terms.now }
+    {
+        let mut at = 0;
+        for _ in 0..count {
+            at = self.end_at(at);
+        }
+        at
+    }
+
+    // Whether the node `b` is an abstraction around the node `i`.
+    fn is_around(&self, i: usize, b: usize) -> bool
+        requires { b < length self.now.terms.now }
+        ensures { result ≡ opens self.now.terms.now i b }
+    {
+        self.terms[b].symbol() == Some(Symbol::Abstraction) && i < self.end_at(b)
+    }
+
+    // The abstraction that a variable with the number `number` at `i` means.
+    pub fn find_binder(&self, i: usize, number: u16) -> Option<usize>
+        requires { i < length self.now.terms.now }
+        ensures { result ≡ binder self.now.terms.now i i number }
+    {
+        (0..i)
+            .rev()
+            .filter(|b| self.is_around(i, *b))
+            .nth(number as usize)
+    }
 }

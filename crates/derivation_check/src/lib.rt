@@ -1,63 +1,48 @@
 // The check of a typing derivation: every node of a term against the types that a list of types gives the nodes.
 #![tactic(auto)]
 
-ghost use Rattle.std.specs.Prelude.{length, Decides, MatchResult};
-ghost use Rattle.types.specs.Lists.{Lawful};
-ghost use Rattle.instance.specs.Once.{Once};
+ghost use Rattle.std.specs.Prelude.{◌≡◌, length, MatchResult};
 ghost use Rattle.derivation_check.specs.Steps.{StepsAreTypings};
-ghost use Rattle.derivation_check.specs.Checking.{types, Placed, Judged, Checked, Refuses};
+ghost use Rattle.derivation_check.specs.Checking.{Judged, Checked, Refuses};
+ghost use Rattle.derivation_check.specs.Arrows.{type_of};
 ghost use Rattle.derivation_check.specs.Faults.{says};
 
+use crate::ends::Prefix;
 use crate::fault::CheckFault;
-use crate::steps::first_failing;
+use crate::node_types::NodeTypes;
+use crate::steps::Derivation;
 use copy::Source;
-use instance::is_once;
 use term::TermNode;
-use types::{MOST_NODES, TypeNode, is_lawful};
+use types::TypeNode;
 
 mod ends;
 pub mod fault;
+mod node_types;
 mod steps;
 
 // For how many nodes it is noted where their terms end. What stands behind them is walked over anew for each question,
 // so that a longer list of nodes is answered too, if not as fast.
 const NOTED: usize = 1024;
 
-// Whether there are just `count` places, all of them below `nodes`.
-fn are_places(places: &[u16], count: usize, nodes: usize) -> bool
-    ensures { Decides result (Placed places.now count nodes) }
-{
-    if places.len() != count {
-        return false;
-    }
-    for place in places.iter() {
-        if *place as usize >= nodes {
-            return false;
-        }
-    }
-    true
-}
-
 // The first node without its typing step.
-fn judge<E: Source, K: Source>(
-    entries: &E,
-    kept: &K,
-    terms: &[TermNode],
-    list: &[TypeNode],
-    places: &[u16],
+fn judge<'a, E: Source, K: Source>(
+    entries: &'a E,
+    kept: &'a K,
+    terms: &'a [TermNode],
+    types: NodeTypes<'a>,
 ) -> Option<usize>
-    requires lawful { Lawful list.now }
-    requires once { Once list.now }
-    requires placed { Placed places.now (length terms.now) (length list.now) }
-    ensures { Judged (E.Source.list entries.now) (K.Source.list kept.now) terms.now (types list.now places.now) result }
+    requires { length types.places.now ≡ length terms.now }
+    ensures { Judged (E.Source.list entries.now) (K.Source.list kept.now) terms.now (type_of types.entry) result }
 {
-    let mut ends = [0usize; NOTED];
-    let noted = if terms.len() < NOTED {
-        terms.len()
-    } else {
-        NOTED
+    let mut sizes = [0usize; NOTED];
+    let noted = terms.len().min(NOTED);
+    let derivation = Derivation {
+        entries,
+        kept,
+        term: Prefix::new(terms, &mut sizes[..noted]),
+        types,
     };
-    first_failing(entries, kept, terms, list, places, &mut ends[0..noted])
+    derivation.first_failing()
 }
 
 // Whether a list of types, with a place in it for each term node, is a typing derivation: if each node's step is a typing
@@ -72,19 +57,9 @@ pub fn check<E: Source, K: Source>(
     ensures answer { MatchResult result (λ _. Checked (E.Source.list entries.now) (K.Source.list kept.now) terms.now list.now places.now) (λ f. Refuses (E.Source.list entries.now) (K.Source.list kept.now) terms.now list.now places.now (says f)) }
     ensures typings { StepsAreTypings }
 {
-    if list.len() == 0 || list.len() > MOST_NODES {
-        return Err(CheckFault::Length);
-    }
-    if !is_lawful(list) {
-        return Err(CheckFault::Unlawful);
-    }
-    if !is_once(list) {
-        return Err(CheckFault::Equal);
-    }
-    if !are_places(places, terms.len(), list.len()) {
-        return Err(CheckFault::Places);
-    }
-    match judge(entries, kept, terms, list, places) {
+    let types = NodeTypes::new(list, places, terms.len())?;
+    // A match, as a node that is found is the fault here, and none the success.
+    match judge(entries, kept, terms, types) {
         None => Ok(()),
         Some(at) => Err(CheckFault::Step(at)),
     }

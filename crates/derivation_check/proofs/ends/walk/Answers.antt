@@ -1,9 +1,9 @@
-use Rattle.std.proofs.Common.{◌-◌, sym, inr, arith}
+use Rattle.std.proofs.Common.{inr, sym, ◌-◌, arith}
 use Rattle.derivation_check.proofs.Spans.{walked_more, walked_all}
 use Rattle.derivation_check.proofs.ends.walk.Goals as goal
 
-pub loop-missing-preserved : goal.loop-missing-preserved
-loop-missing-preserved c = walked_more _ _ _ _ c.loop-missing.invariant (c.loop-missing.missing - 1) _ (omega arith) (omega arith) (sym c.parts_of.ensures)
+pub loop-next-preserved : goal.loop-next-preserved
+loop-next-preserved c = walked_more _ _ _ c.loop-next.invariant (c.loop-next.missing - 1) _ (omega arith) (omega arith) (sym c.parts_of.ensures)
 
-pub returns-else-next-terms : goal.returns-else-next-terms
-returns-else-next-terms c = walked_all _ _ _ _ c.loop-missing.invariant (inr (omega arith))
+pub returns-clause-is : goal.returns-clause-is
+returns-clause-is c = omega (arith, walked_all _ _ _ c.loop-next.invariant (inr (omega arith)))

@@ -1,0 +1,5 @@
+use Rattle.derivation_check.proofs.Spans.{Noted}
+use Rattle.derivation_check.proofs.ends.Prefix.new.Given as goal
+
+abbrev pub invariant-loop-i : goal.invariant-loop-i
+invariant-loop-i l = Noted l.terms l.sizes l.i
