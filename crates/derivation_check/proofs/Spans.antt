@@ -1,6 +1,6 @@
 -- Where the subterms of nodes in prefix order end, and which abstractions are around a node.
 use Rattle.std.proofs.Common.{◌≡◌, ℕ, zero, suc, ◌+◌, ◌-◌, ◌<◌, ◌≤◌, Bool, true, false, cond, ◌≢◌, ◌⊎◌, List, [], ◌∷◌, length, get_or, take, drop, set, Some, None, Option, add-zero, sym, refl, ap, ◌∙◌, subst, ap₂, inl, inr, ⊎_elim, arith}
-use Rattle.std.proofs.lemmas.List.{take_all, drop_all, drop_more, drop-drop, length-drop, length-set, get_or-set_same, get_or-set_other}
+use Rattle.std.proofs.lemmas.List.{take_all, drop_all, drop_more, length-drop, length-set, get_or-set_same, get_or-set_other}
 use Rattle.std.proofs.lemmas.Bool.{cases_eq}
 use Rattle.term.specs.Terms.{zero_node}
 use Rattle.term.specs.Symbols.{symbol_of}
@@ -37,9 +37,6 @@ span_more ts n = sym (span_add ts n 1)
 
 pub span_at : (ts : List TermNode) (i n : ℕ) → i < length ts → span (suc n) (drop i ts) ≡ suc (span (arity (symbol_of (get_or ts i zero_node)) + n) (drop (i + 1) ts))
 span_at ts i n h = ap (span (suc n)) (drop_more ts i zero_node h)
-
-pub end_fits : (ts : List TermNode) (i : ℕ) → i ≤ length ts → end ts i ≤ length ts
-end_fits ts i h = let s = span_fits 1 (drop i ts) in omega (arith, s, length-drop i ts)
 
 arity_few : (s : Option Symbol) → arity s ≤ 2
 arity_few None = omega arith
@@ -90,46 +87,13 @@ noted_more ts ss i j p r some below noted parts is =
           (cases_eq k j);
     }
 
-from_some : Option ℕ → ℕ
-from_some None = 0
-from_some (Some x) = x
-
-pub some_one : {x y : ℕ} → ◌≡◌ {A = Option ℕ} (Some x) (Some y) → x ≡ y
-unfolding from_some
-some_one e = ap from_some e
-
-abbrev mark : Option ℕ → ℕ
-mark None = 0
-mark (Some x) = 1
-
-pub none_some : {y : ℕ} → ◌≡◌ {A = Option ℕ} None (Some y) → ⊥
-none_some e = absurd (omega (arith, ap mark e))
-
 module _ (ts : List TermNode) (i : ℕ) where
-  pub binder_here : (b c n : ℕ) → c + 1 ≡ b → opens ts i c ≡ true → n ≡ 0 → binder ts i b n ≡ Some c
-  binder_here zero c n e o z = absurd (omega arith)
-  binder_here (suc b) c zero e o z = let q : c ≡ b = omega arith in subst (λ (x : ℕ). binder ts i (suc x) zero ≡ Some c) q (ap (λ (t : Bool). cond t (Some c) (binder ts i c zero)) o)
-  binder_here (suc b) c (suc n) e o z = absurd (omega arith)
-
-  pub binder_next : (b c n m : ℕ) → c + 1 ≡ b → m + 1 ≡ n → opens ts i c ≡ true → binder ts i b n ≡ binder ts i c m
-  binder_next zero c n m e f o = absurd (omega arith)
-  binder_next (suc b) c zero m e f o = absurd (omega arith)
-  binder_next (suc b) c (suc n) m e f o =
-      let q : c ≡ b = omega arith in
-      let p : m ≡ n = omega arith in
-      subst (λ (x : ℕ). binder ts i (suc x) (suc n) ≡ binder ts i c m) q (ap (λ (t : Bool). cond t (binder ts i c n) (binder ts i c (suc n))) o ∙ ap (binder ts i c) (sym p))
-
-  pub binder_skip : (b c n : ℕ) → c + 1 ≡ b → opens ts i c ≡ false → binder ts i b n ≡ binder ts i c n
-  binder_skip zero c n e o = absurd (omega arith)
-  binder_skip (suc b) c zero e o = let q : c ≡ b = omega arith in subst (λ (x : ℕ). binder ts i (suc x) zero ≡ binder ts i c zero) q (ap (λ (t : Bool). cond t (Some c) (binder ts i c zero)) o)
-  binder_skip (suc b) c (suc n) e o = let q : c ≡ b = omega arith in subst (λ (x : ℕ). binder ts i (suc x) (suc n) ≡ binder ts i c (suc n)) q (ap (λ (t : Bool). cond t (binder ts i c n) (binder ts i c (suc n))) o)
-
   pub binder_below : (b n c : ℕ) → binder ts i b n ≡ Some c → c < b
-  binder_below zero n c e = absurd (none_some e)
+  binder_below zero n c e = cc
   binder_below (suc b) zero c e = go (binder_below b zero c) (opens ts i b) e
     where
       go : (binder ts i b zero ≡ Some c → c < b) → (t : Bool) → cond t (Some b) (binder ts i b zero) ≡ Some c → c < suc b
-      go rest true f = omega (arith, some_one f)
+      go rest true f = let q : b ≡ c = cc in omega arith
       go rest false f = omega (arith, rest f)
   binder_below (suc b) (suc n) c e = go (binder_below b n c) (binder_below b (suc n) c) (opens ts i b) e
     where

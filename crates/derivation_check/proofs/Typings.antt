@@ -11,7 +11,6 @@ use Rattle.infer.specs.Typing.{Typing}
 use Rattle.instance.proofs.Places.{left_of}
 use Rattle.derivation_check.specs.Prefixes.{is_abstraction, end}
 use Rattle.derivation_check.specs.Steps.{StepOf, Step, StepsAreTypings}
-use Rattle.derivation_check.proofs.Spans.{some_one, none_some}
 use Rattle.derivation_check.proofs.Standing.{nth, some_nodes, At, Scope, here, at_inside, end_term, scope_more, parts_of}
 
 -- the types of the binders at bs: those from which their abstractions have arrows
@@ -19,8 +18,8 @@ abbrev context : (ℕ → Ty) → List ℕ → List Ty
 context T bs = map (λ (b : ℕ). left_of (T b)) bs
 
 context_at : (T : ℕ → Ty) (bs : List ℕ) (n b : ℕ) → nth bs n ≡ Some b → (n < length (context T bs)) × (get_or (context T bs) n (base 0) ≡ left_of (T b))
-context_at T [] n b e = absurd (none_some e)
-context_at T (c ∷ bs) zero b e = (omega arith, ap (λ (x : ℕ). left_of (T x)) (some_one e))
+context_at T [] n b e = cc
+context_at T (c ∷ bs) zero b e = (omega arith, ap (λ (x : ℕ). left_of (T x)) (let q : c ≡ b = cc in q))
 context_at T (c ∷ bs) (suc n) b e =
     let w = context_at T bs n b e in
     (omega (arith, w.0), w.1)

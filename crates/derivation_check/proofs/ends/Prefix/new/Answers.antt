@@ -1,4 +1,4 @@
-use Rattle.std.proofs.Common.{◌-◌, refl}
+use Rattle.std.proofs.Common.{refl}
 use Rattle.derivation_check.proofs.Spans.{noted_more}
 use Rattle.derivation_check.proofs.ends.Prefix.new.Goals as goal
 

@@ -1,5 +1,5 @@
 use Rattle.std.proofs.Common.{arith, ap, ◌∙◌}
-use Rattle.derivation_check.specs.Prefixes.{span, end}
+use Rattle.derivation_check.specs.Prefixes.{end}
 use Rattle.derivation_check.proofs.Spans.{span_fits, span_more}
 use Rattle.derivation_check.proofs.ends.Prefix.span.Goals as goal
 

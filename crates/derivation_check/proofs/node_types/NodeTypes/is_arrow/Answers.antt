@@ -1,4 +1,3 @@
-use Rattle.std.proofs.Common.{sym, ◌∙◌}
 use Rattle.derivation_check.proofs.Arrows.{decides_arrow}
 use Rattle.derivation_check.proofs.node_types.NodeTypes.is_arrow.Goals as goal
 

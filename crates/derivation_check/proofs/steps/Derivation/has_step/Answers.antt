@@ -1,4 +1,3 @@
-use Rattle.std.proofs.Common.{sym, ◌∙◌, arith}
 use Rattle.derivation_check.proofs.Spans.{binder_inside}
 use Rattle.derivation_check.proofs.steps.Derivation.has_step.Goals as goal
 
