@@ -1,4 +1,5 @@
 pub mod Mapped
 pub mod Solved
 pub mod Wholes
+pub mod Refusing
 pub mod Renamed

@@ -1,6 +1,7 @@
 -- A principal typing with its variables numbered anew is principal; its list begins with that of the root's type.
-use Rattle.std.proofs.Common.{◌≡◌, ℕ, ◌-◌, ◌<◌, ◌≤◌, List, [], ◌∷◌, ◌++◌, map, length, get_or, take, replicate, sym, refl, ap, ◌∙◌, subst, ⊎_elim, arith}
+use Rattle.std.proofs.Common.{◌≡◌, ℕ, ◌-◌, ◌<◌, ◌≤◌, List, [], ◌∷◌, ◌++◌, map, length, get_or, take, replicate, Some, None, Option, IfNone, IfOk, MatchResult, sym, refl, ap, ◌∙◌, subst, ⊎_elim, arith}
 use Rattle.std.specs.List.{AllByRecursion}
+use Rattle.std.specs.Option.{ok_or}
 use Rattle.std.proofs.lemmas.List.{length-map, get_or-map, ext_get_or, take_all, get_or_append_left, get_or-append_right, get_or-replicate, get_or_past}
 use Rattle.std.proofs.ByRecursion.{All-from_get_or}
 use Rattle.std.proofs.lemmas.Bool.{cases_lt}
@@ -19,11 +20,14 @@ use Rattle.normal.specs.Built.{none}
 use Rattle.normal.proofs.Parts.{parts_built}
 use Rattle.normal.proofs.Meaning.{normal_means, normal_once, normal_lawful, normal_begins, parts_have, variable_at, renumbered, apply_apply}
 use Rattle.normal.proofs.Rename.{mutual_keeps_list, renaming_keeps_list}
-use Rattle.typer.specs.Answers.{PrincipalType, PrincipalTyping, Cleared, Zeros, OneTypeList, OneTypingList}
-use Rattle.typer.specs.Nodes.{of, NodesListed}
-use Rattle.typer.specs.Derivations.{DerivedNodes}
+use Rattle.typer.specs.Answers.{PrincipalType, PrincipalTyping, Zeros, OneTypeList, OneTypingList}
+use Rattle.typer.specs.Nodes.{of, NodesListed, Listing}
+use Rattle.typer.specs.Derivations.{Holds, Derived, DerivedNodes, Underived, no_type}
+use Rattle.typer.specs.Faults.{derive_says}
+use Rattle.typer.specs.declared.fault.DeriveFault.{DeriveFault}
+use Rattle.typer.specs.declared.fault.DeriveFault.TheVariants as Derive
 use Rattle.typer.proofs.Mapped.{typing_mapped, list_applied, principal_type, principal_simple}
-use Rattle.typer.proofs.Wholes.{zeros_behind}
+use Rattle.typer.proofs.Wholes.{all_zeros}
 
 module _ (E K : Lists) (t : Term) (us : List Ty) (proper : AllByRecursion Proper us) (long : length us ≡ size t) (d : PrincipalTyping E K t (of us)) where
   -- the types as the list has them
@@ -59,13 +63,12 @@ derivation_begins E K t us h w p τ q =
     subst (λ (l : List TypeNode). take (length l) (normal us) ≡ l) same (begins_with us h w)
 
 module _ (E K : Lists) (ts : List TermNode) (we : (k : ℕ) → 0 < length (E k) → Lawful (E k)) (wk : (k : ℕ) → 0 < length (K k) → Lawful (K k)) where
-  pub derived : (qs more places : List ℕ) (sub rest types : List TypeNode) (numbers : List ℕ) (n : ℕ) → length qs ≡ length ts → length sub ≡ need E K ts → length sub ≤ 4096 → NodesListed E K ts qs sub n → Cleared rest → types ≡ sub ++ rest → Zeros more → places ≡ qs ++ more → Zeros numbers → DerivedNodes E K ts types places numbers n
-  derived qs more places sub rest types numbers n one full few l r w m pl z =
+  derived : (qs more places : List ℕ) (types : List TypeNode) (numbers : List ℕ) (n : ℕ) → length qs ≡ length ts → need E K ts ≤ 4096 → NodesListed E K ts qs types n → Zeros more → places ≡ qs ++ more → Zeros numbers → DerivedNodes E K ts types places numbers n
+  derived qs more places types numbers n one few l m pl z =
       let us = l.types in
       let whole : take (length qs) us ≡ us = take_all (length qs) us (omega (arith, l.long)) in
       let list : normal (take (length qs) us) ≡ normal us = ap normal whole in
       let count : n ≡ length (normal us) = l.count ∙ ap length list in
-      let here = l.within in
       let some = l.some in
       let long = l.long in
       let stands : (k : ℕ) → k < length ts → get_or places k 0 ≡ place (parts us) (of us k) = λ k h.
@@ -76,8 +79,8 @@ module _ (E K : Lists) (ts : List TermNode) (we : (k : ℕ) → 0 < length (E k)
               nodes = us;
               long = long;
               count = count;
-              within = omega arith;
-              holds = zeros_behind zero_node (normal us) sub rest types n count here (l.holds ∙ ap (λ (xs : List TypeNode). xs ++ replicate (length sub - n) zero_node) list) r w;
+              within = l.within;
+              holds = l.holds ∙ ap (λ (xs : List TypeNode). xs ++ replicate (length types - n) zero_node) list;
               stands = stands;
               behind = λ k h.
                   ap (λ (xs : List ℕ). get_or xs k 0) pl ∙ get_or-append_right qs more (length qs) k 0 refl (omega arith)
@@ -87,7 +90,7 @@ module _ (E K : Lists) (ts : List TermNode) (we : (k : ℕ) → 0 < length (E k)
                   (cases_lt (k - length qs) (length more));
               zeros = z;
               once = (normal_once us l.proper).0;
-              lawful = λ t e. derivation_lawful E K t us l.proper (long ∙ sym (ap length e)) (l.principal t e) we wk (omega arith);
+              lawful = λ t e. derivation_lawful E K t us l.proper (long ∙ sym (ap length e)) (l.principal t e) we wk (omega (arith, l.within));
               principal = λ t e.
                   let same : size t ≡ length ts = ap length e in
                   numbered_principal E K t us l.proper (long ∙ sym (ap length e)) (l.principal t e) (λ k. type_at (normal us) (get_or places k 0))
@@ -96,6 +99,16 @@ module _ (E K : Lists) (ts : List TermNode) (we : (k : ℕ) → 0 < length (E k)
             };
         typing = l.principal;
       }
+
+  module _ (qs more places places' : List ℕ) (types types' : List TypeNode) (numbers numbers' : List ℕ) (one : length qs ≡ length ts) (holds : Holds (need E K ts) (length ts) (length types) (length places) (length numbers)) (m : Zeros more) (pl : places' ≡ qs ++ more) (z : Zeros numbers') where
+    -- the answer on a term whose derivation has room
+    pub derivation_answered : (o : Option ℕ) → Listing E K ts qs types' o → IfNone o (Zeros qs) → MatchResult (ok_or o Derive.NoType) (λ n. Derived E K ts types' places' numbers' n) (λ f. Underived E K ts types types' places places' numbers numbers' (derive_says f))
+    derivation_answered (Some n) l q = (derived qs more places' types' numbers' n one holds.serves.few l m pl z).derived
+    derivation_answered None l q = no_type holds l.none l.clear (all_zeros 0 qs more places' q m pl) z
+
+    pub nodes_answered : (o : Option ℕ) → Listing E K ts qs types' o → IfOk (ok_or {E = DeriveFault} o Derive.NoType) (λ n. DerivedNodes E K ts types' places' numbers' n)
+    nodes_answered (Some n) l = derived qs more places' types' numbers' n one holds.serves.few l m pl z
+    nodes_answered None l = tt
 
 -- ---- one list for all
 

@@ -12,6 +12,7 @@ use Rattle.copy.specs.Instances.{Lists}
 use Rattle.graph.specs.Graph.{graph}
 use Rattle.graph.proofs.Memory.{graph_length}
 use Rattle.infer.specs.Typing.{size}
+use Rattle.infer.specs.Heads.{need}
 use Rattle.infer.specs.Passes.{Inferred}
 use Rattle.infer.proofs.Typings.{some_node, typing_same}
 use Rattle.normal.specs.Normal.{place, parts, normal, record_of}
@@ -93,9 +94,9 @@ module _ (E K : Lists) (ts : List TermNode) (ps : List ℕ) (ws : List TypeNode)
         let e : place (parts (take k types)) (get_or (take k types) p (variable 0)) ≡ get_or qs p 0 = ap (place (parts (take k types))) (get_or-take k types p (variable 0) h) ∙ sym (places p h) in
         omega (arith, b.0, e, counted, length-map (parts (take k types)) (record_of (parts (take k types))))
 
-    pub nodes_listed : 0 < length ts → (rs : List ℕ) → length rs ≡ k → ((p : ℕ) → p < k → get_or rs p 0 ≡ get_or qs p 0) → NodesListed E K ts rs memory m
+    pub nodes_listed : 0 < length ts → length memory ≡ need E K ts → (rs : List ℕ) → length rs ≡ k → ((p : ℕ) → p < k → get_or rs p 0 ≡ get_or qs p 0) → NodesListed E K ts rs memory m
     unfolding types
-    nodes_listed some rs lr same =
+    nodes_listed some full rs lr same =
         record {
           types = types;
           long = length-map ps l.found.types ∙ long;
@@ -103,7 +104,7 @@ module _ (E K : Lists) (ts : List TermNode) (ps : List ℕ) (ws : List TypeNode)
           proper = proper;
           principal = principal;
           count = subst (λ (j : ℕ). m ≡ length (normal (take j types))) (sym lr) counted;
-          within = within;
+          within = omega (arith, within);
           holds = l.list ∙ ap (λ (us : List Ty). normal us ++ replicate (length memory - m) zero_node) (subst (λ (j : ℕ). map l.found.types (take k ps) ≡ take j types) (sym lr) front);
           places = λ p h. same p (omega arith) ∙ subst (λ (j : ℕ). get_or qs p 0 ≡ place (parts (take j types)) (of types p)) (sym lr) (places p (omega arith));
         }

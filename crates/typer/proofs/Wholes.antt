@@ -1,5 +1,6 @@
 -- What stands in whole memories after the work on their fronts, and that a listed root is the most general type.
-use Rattle.std.proofs.Common.{◌≡◌, ℕ, ◌+◌, ◌-◌, ◌<◌, ◌≤◌, List, [], ◌∷◌, ◌++◌, length, take, drop, replicate, refl, ap, ◌∙◌, ap₂, append_assoc, append-nil, arith}
+use Rattle.std.proofs.Common.{◌≡◌, ℕ, ◌+◌, ◌-◌, ◌<◌, ◌≤◌, List, [], ◌∷◌, ◌++◌, Bool, true, false, not, length, take, drop, replicate, Some, None, Option, MatchResult, refl, ap, ◌∙◌, ap₂, append_assoc, append-nil, arith}
+use Rattle.std.specs.Option.{ok_or, is_some}
 use borrow.Rule.Slice.PartMut.{put_mid}
 use Rattle.std.proofs.lemmas.List.{length-append, take_at, drop_at, drop_all, replicate-append-replicate}
 use Rattle.types.specs.declared.TypeNode.{TypeNode}
@@ -11,8 +12,11 @@ use Rattle.infer.specs.Heads.{need}
 use Rattle.infer.proofs.Typings.{some_node}
 use Rattle.normal.specs.Normal.{normal, normal_of}
 use Rattle.normal.proofs.Meaning.{normal_lawful}
-use Rattle.typer.specs.Answers.{Typed, Cleared, Zeros}
-use Rattle.typer.specs.Nodes.{of, NodesListed}
+use Rattle.typer.specs.Answers.{Typed, Refuses, no_type, Cleared, Zeros}
+use Rattle.typer.specs.Faults.{says}
+use Rattle.typer.specs.Questions.{Serves}
+use Rattle.typer.specs.declared.fault.TypesFault.TheVariants as Types
+use Rattle.typer.specs.Nodes.{of, NodesListed, Listing}
 use Rattle.typer.proofs.Mapped.{principal_type, principal_simple}
 
 -- a memory whose front was worked on and whose rest was written anew
@@ -32,23 +36,53 @@ pub all_zeros : {X : Type 0} (z : X) (sub rest whole : List X) → sub ≡ repli
 all_zeros z sub rest whole s r w =
     zeros_behind z [] sub rest whole 0 refl (omega arith) (s ∙ ap (λ (j : ℕ). replicate j z) (omega arith)) r w ∙ ap (λ (j : ℕ). replicate j z) (omega arith)
 
+-- the types listed in the front of a memory are listed in the whole
+pub whole_listed : (E K : Lists) (ts : List TermNode) (qs : List ℕ) (sub rest types : List TypeNode) (n : ℕ) → length sub ≡ need E K ts → NodesListed E K ts qs sub n → Cleared rest → types ≡ sub ++ rest → NodesListed E K ts qs types n
+whole_listed E K ts qs sub rest types n full l r w =
+    record {
+      types = l.types;
+      long = l.long;
+      some = l.some;
+      proper = l.proper;
+      principal = l.principal;
+      count = l.count;
+      within = l.within;
+      holds = zeros_behind zero_node (normal (take (length qs) l.types)) sub rest types n l.count (omega (arith, l.within)) l.holds r w;
+      places = l.places;
+    }
+
+-- so is what the work on the front answers
+pub whole_listing : (E K : Lists) (ts : List TermNode) (qs : List ℕ) (sub rest types : List TypeNode) (o : Option ℕ) → length sub ≡ need E K ts → Listing E K ts qs sub o → Cleared rest → types ≡ sub ++ rest → Listing E K ts qs types o
+whole_listing E K ts qs sub rest types (Some n) full l r w = whole_listed E K ts qs sub rest types n full l r w
+whole_listing E K ts qs sub rest types None full l r w = record { none = l.none; clear = all_zeros zero_node sub rest types l.clear r w }
+
+-- where nothing is listed, the places do not matter
+pub nothing_listed : (E K : Lists) (ts : List TermNode) (qs qs' : List ℕ) (memory : List TypeNode) (o : Option ℕ) (b : Bool) → is_some o ≡ not b → b ≡ true → Listing E K ts qs memory o → Listing E K ts qs' memory o
+nothing_listed E K ts qs qs' memory (Some n) b e none l = let f : true ≡ false = e ∙ ap not none in cc
+nothing_listed E K ts qs qs' memory None b e none l = l
+
 take_one : (us : List Ty) → 0 < length us → take 1 us ≡ of us 0 ∷ []
 take_one [] h = absurd (omega arith)
 take_one (u ∷ us) h = refl
 
 module _ (E K : Lists) (ts : List TermNode) (we : (k : ℕ) → 0 < length (E k) → Lawful (E k)) (wk : (k : ℕ) → 0 < length (K k) → Lawful (K k)) where
-  pub typed : (qs : List ℕ) (sub rest types : List TypeNode) (numbers : List ℕ) (n : ℕ) → length qs ≡ 1 → length sub ≡ need E K ts → length sub ≤ 4096 → NodesListed E K ts qs sub n → Cleared rest → types ≡ sub ++ rest → Zeros numbers → Typed E K ts types numbers n
-  typed qs sub rest types numbers n one full few l r w z =
+  typed : (qs : List ℕ) (types : List TypeNode) (numbers : List ℕ) (n : ℕ) → length qs ≡ 1 → need E K ts ≤ 4096 → NodesListed E K ts qs types n → Zeros numbers → Typed E K ts types numbers n
+  typed qs types numbers n one few l z =
       let τ = of l.types 0 in
       let lt : normal (take (length qs) l.types) ≡ normal_of τ = ap (λ (j : ℕ). normal (take j l.types)) one ∙ ap normal (take_one l.types (omega (arith, l.long, l.some))) in
       let count : n ≡ length (normal_of τ) = l.count ∙ ap length lt in
-      let here = l.within in
       record {
         type = τ;
         principal = λ t e. principal_type E K t (of l.types) (l.principal t e);
-        lawful = λ t e. normal_lawful (τ ∷ []) (principal_simple E K t (of l.types) (l.principal t e) we wk 0 (some_node t), tt) (omega arith) (omega arith);
+        lawful = λ t e. normal_lawful (τ ∷ []) (principal_simple E K t (of l.types) (l.principal t e) we wk 0 (some_node t), tt) (omega arith) (omega (arith, l.within));
         count = count;
-        within = omega arith;
-        holds = zeros_behind zero_node (normal_of τ) sub rest types n count here (l.holds ∙ ap (λ (xs : List TypeNode). xs ++ replicate (length sub - n) zero_node) lt) r w;
+        within = l.within;
+        holds = l.holds ∙ ap (λ (xs : List TypeNode). xs ++ replicate (length types - n) zero_node) lt;
         zeros = z;
       }
+
+  -- the answer on a term that serves
+  pub answered : (qs : List ℕ) (types types' : List TypeNode) (numbers numbers' : List ℕ) (o : Option ℕ) → length qs ≡ 1 → Serves (need E K ts) (length ts) (length types) (length numbers) → Listing E K ts qs types' o → Zeros numbers'
+      → MatchResult (ok_or o Types.NoType) (λ n. Typed E K ts types' numbers' n) (λ f. Refuses E K ts types types' numbers numbers' (says f))
+  answered qs types types' numbers numbers' (Some n) one serves l z = typed qs types' numbers' n one serves.few l z
+  answered qs types types' numbers numbers' None one serves l z = no_type serves l.none l.clear z

@@ -12,6 +12,8 @@ use Rattle.copy.specs.Instances.{Lists}
 use Rattle.infer.specs.Heads.{need}
 use Rattle.normal.specs.Normal.{place, parts, normal, normal_of}
 use Rattle.normal.specs.Laws.{Once}
+use Rattle.typer.specs.declared.fault.TypesFault.{TypesFault}
+use Rattle.typer.specs.declared.fault.TypesFault.TheVariants.{TooMuch, NoTypeRoom, NoNumberRoom, NoType}
 use Rattle.typer.specs.Questions.{numbers_for, Serves}
 use Rattle.typer.specs.Answers.{PrincipalType, PrincipalTyping, NoTypes, Cleared, Zeros}
 use Rattle.typer.specs.Nodes.{of}
@@ -30,6 +32,13 @@ pub record Roomy (need t types places numbers n : ℕ) : Type 0 where
 pub record Fits (n types : ℕ) : Type 0 where
   pub few : n ≤ 4096
   pub records : n ≤ types
+
+-- why it has not: more than 4,096 are needed, or it has fewer
+abbrev pub NotFits : ℕ → ℕ → TypesFault → Type 0
+NotFits n types TooMuch = 4096 < n
+NotFits n types NoTypeRoom = (n ≤ 4096) × (types < n)
+NotFits n types NoNumberRoom = ⊥
+NotFits n types NoType = ⊥
 
 -- The first question that is answered with no: has the type memory the needed records (73), has the place memory a place
 -- for each node (74), has the number memory the needed numbers (75)?

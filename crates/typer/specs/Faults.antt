@@ -18,3 +18,10 @@ derive_says derive.NoTypeRoom = saying 73 layer.Book 0
 derive_says derive.NoPlaceRoom = saying 74 layer.Book 0
 derive_says derive.NoNumberRoom = saying 75 layer.Book 0
 derive_says derive.NoType = saying 40 layer.Types 0
+
+-- a fault of the typing, said of a derivation
+abbrev pub of_derivation : TypesFault → DeriveFault
+of_derivation TooMuch = derive.NoTypeRoom
+of_derivation NoTypeRoom = derive.NoTypeRoom
+of_derivation NoNumberRoom = derive.NoNumberRoom
+of_derivation NoType = derive.NoType

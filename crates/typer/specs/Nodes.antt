@@ -7,6 +7,7 @@ use Rattle.types.specs.Lists.{zero_node}
 use Rattle.term.specs.declared.TermNode.{TermNode}
 use Rattle.term.specs.Terms.{Term, prefix}
 use Rattle.copy.specs.Instances.{Lists}
+use Rattle.infer.specs.Heads.{need}
 use Rattle.normal.specs.Normal.{place, parts, normal}
 use Rattle.normal.specs.Laws.{Proper}
 use Rattle.typer.specs.Answers.{PrincipalTyping, NoTypes, Cleared}
@@ -24,7 +25,7 @@ pub record NodesListed (E K : Lists) (ts : List TermNode) (qs : List ℕ) (memor
   pub proper : AllByRecursion Proper types
   pub principal : (t : Term) → prefix t ≡ ts → PrincipalTyping E K t (of types)
   pub count : n ≡ length (normal (take (length qs) types))
-  pub within : n ≤ length memory
+  pub within : n ≤ need E K ts
   pub holds : memory ≡ normal (take (length qs) types) ++ replicate (length memory - n) zero_node
   pub places : (k : ℕ) → k < length qs → slice_index qs k ≡ place (parts (take (length qs) types)) (of types k)
 

@@ -1,15 +1,16 @@
 // The most general type of a term, and its derivation, over memories that are passed in.
 #![tactic(auto)]
 
-ghost use Rattle.std.specs.Prelude.{◌≡◌, ℕ, length, IfOk, MatchResult};
+ghost use Rattle.std.specs.Prelude.{◌≡◌, ℕ, ◌<◌, ◌≤◌, length, IfOk, IfNone, MatchResult};
 ghost use Rattle.infer.specs.Heads.{need};
 ghost use Rattle.typer.specs.Faults.{says, derive_says};
-ghost use Rattle.typer.specs.Answers.{Typed, Refuses, OneTypeList, OneTypingList};
+ghost use Rattle.typer.specs.Answers.{Zeros, Typed, Refuses, OneTypeList, OneTypingList};
 ghost use Rattle.typer.specs.Derivations.{Holds, Derived, DerivedNodes, Underived};
+ghost use Rattle.typer.specs.Nodes.{Listing};
 ghost use Rattle.typer.specs.Questions.{Serves};
 
 use crate::fault::{DeriveFault, TypesFault};
-use crate::nodes::{clear, clear_numbers, clear_places, list_nodes};
+use crate::nodes::{clear, list_nodes};
 use crate::question::{ask, ask_derivation};
 use copy::Source;
 use term::TermNode;
@@ -27,6 +28,34 @@ pub fn one_answer_stands() -> u8
     0
 }
 
+// The work on a term that needs `records` records, in memories that serve: the types of its first nodes are listed in the
+// type memory, with zero nodes behind the list, and where they stand in the places. The numbers are zeros then, and where
+// the term has no type, the rest too.
+fn work<E: Source, K: Source>(
+    entries: &E,
+    kept: &K,
+    terms: &[TermNode],
+    records: usize,
+    types: &mut [TypeNode],
+    places: &mut [u16],
+    numbers: &mut [u32],
+) -> Option<usize>
+    requires is { records ≡ need (E.Source.list entries.now) (K.Source.list kept.now) terms.now }
+    requires serves { Serves records (length terms.now) (length types.old) (length numbers.old) }
+    requires nodes { 0 < length terms.now → length places.old ≤ length terms.now }
+    ensures listing { Listing (E.Source.list entries.now) (K.Source.list kept.now) terms.now places.new types.new result }
+    ensures places { IfNone result (Zeros places.new) }
+    ensures zeros { Zeros numbers.new }
+{
+    let found = list_nodes(entries, kept, terms, &mut types[..records], places, numbers);
+    clear(&mut types[records..]);
+    numbers.fill(0);
+    if found.is_none() {
+        places.fill(0);
+    }
+    found
+}
+
 // The most general type of a term over the lists of a catalogue and of kept formulas: its normal list is written to the
 // type memory, with zero nodes behind it, and the number of its records answered. The numbers are zeros then. A refusal
 // before the work leaves both memories as they are; that there is no type leaves zeros in both.
@@ -42,20 +71,7 @@ pub fn type_term<E: Source, K: Source>(
 {
     let records = ask(entries, kept, terms, types.len(), numbers.len())?;
     let mut root = [0u16];
-    let found = list_nodes(
-        entries,
-        kept,
-        terms,
-        &mut types[..records],
-        &mut root,
-        numbers,
-    );
-    clear(&mut types[records..]);
-    clear_numbers(numbers);
-    match found {
-        Some(count) => Ok(count),
-        None => Err(TypesFault::NoType),
-    }
+    work(entries, kept, terms, records, types, &mut root, numbers).ok_or(TypesFault::NoType)
 }
 
 // The derivation of a term's most general type: the normal list of the types of its nodes, in their order, is written to
@@ -74,7 +90,6 @@ pub fn derive<E: Source, K: Source>(
     ensures held { IfOk result (λ _. Holds (need (E.Source.list entries.now) (K.Source.list kept.now) terms.now) (length terms.now) (length types.old) (length places.old) (length numbers.old)) }
     ensures nodes { IfOk result (λ n. DerivedNodes (E.Source.list entries.now) (K.Source.list kept.now) terms.now types.new places.new numbers.new n) }
 {
-    let nodes = terms.len();
     let records = ask_derivation(
         entries,
         kept,
@@ -83,26 +98,9 @@ pub fn derive<E: Source, K: Source>(
         places.len(),
         numbers.len(),
     )?;
-    let found = list_nodes(
-        entries,
-        kept,
-        terms,
-        &mut types[..records],
-        &mut places[..nodes],
-        numbers,
-    );
-    clear(&mut types[records..]);
-    clear_numbers(numbers);
-    match found {
-        Some(count) => {
-            clear_places(&mut places[nodes..]);
-            Ok(count)
-        }
-        None => {
-            clear_places(places);
-            Err(DeriveFault::NoType)
-        }
-    }
+    let (own, rest) = places.split_at_mut(terms.len());
+    rest.fill(0);
+    work(entries, kept, terms, records, types, own, numbers).ok_or(DeriveFault::NoType)
 }
 
 #[cfg(test)]

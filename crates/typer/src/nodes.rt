@@ -1,37 +1,20 @@
 // The normal list of the types of a term's first nodes, by inference and a walk over the graph.
 ghost use Rattle.std.specs.Prelude.{◌≡◌, ℕ, ◌+◌, ◌*◌, ◌<◌, ◌≤◌, length, slice_index};
 ghost use Rattle.infer.specs.Heads.{need};
-ghost use Rattle.typer.specs.Answers.{Cleared, Zeros};
+ghost use Rattle.typer.specs.Answers.{Cleared};
 ghost use Rattle.typer.specs.Nodes.{Listing};
+ghost use Rattle.typer.specs.Parts.{Cut};
 
 use copy::Source;
 use infer::infer;
 use term::TermNode;
 use types::TypeNode;
-use walk::{Looped, list_types};
-
-const ZERO: TypeNode = TypeNode {
-    kind: 0,
-    left: 0,
-    right: 0,
-};
+use walk::list_types;
 
 pub fn clear(memory: &mut [TypeNode])
     ensures { Cleared memory.new }
 {
-    memory.fill(ZERO);
-}
-
-pub fn clear_numbers(numbers: &mut [u32])
-    ensures { Zeros numbers.new }
-{
-    numbers.fill(0);
-}
-
-pub fn clear_places(places: &mut [u16])
-    ensures { Zeros places.new }
-{
-    places.fill(0);
+    memory.fill(TypeNode::default());
 }
 
 // Writes numbers below 65,536 into as many places.
@@ -40,52 +23,77 @@ fn narrow(numbers: &[u32], places: &mut [u16])
     requires small { (k : ℕ) → k < length numbers.now → slice_index numbers.now k < 65536 }
     ensures { (k : ℕ) → k < length places.new → slice_index places.new k ≡ slice_index numbers.now k }
 {
-    for k in 0..places.len() {
-        places[k] = numbers[k] as u16;
+    for (k, place) in places.iter_mut().enumerate() {
+        *place = numbers[k] as u16;
     }
 }
 
-// The work on a term that has nodes, in six memories of numbers.
-fn list_parts<E: Source, K: Source>(
-    entries: &E,
-    kept: &K,
-    terms: &[TermNode],
-    memory: &mut [TypeNode],
-    places: &mut [u16],
-    binders: &mut [u32],
-    roots: &mut [u32],
-    marks: &mut [u32],
-    origins: &mut [u32],
-    heads: &mut [u32],
-    nexts: &mut [u32],
-) -> Option<usize>
-    requires some { 0 < length terms.now }
-    requires records { length memory.old ≡ need (E.Source.list entries.now) (K.Source.list kept.now) terms.now }
-    requires few { length memory.old ≤ 4096 }
-    requires nodes { length places.old ≤ length terms.now }
-    requires inner { length binders.old ≡ length terms.now }
-    requires placed { length roots.old ≡ length terms.now }
-    requires first { length marks.old ≡ length memory.old }
-    requires second { length origins.old ≡ length memory.old }
-    requires third { length heads.old ≡ length memory.old }
-    requires fourth { length nexts.old ≡ length memory.old }
-    ensures { Listing (E.Source.list entries.now) (K.Source.list kept.now) terms.now places.new memory.new result }
-{
-    match infer(entries, kept, terms, binders, roots, marks, memory) {
-        None => {
+// The parts of a number memory that the work takes: two as long as the term, and four as long as the type memory.
+#[derive(Drop)]
+struct Parts<'a> {
+    binders: &'a mut [u32],
+    roots: &'a mut [u32],
+    marks: &'a mut [u32],
+    origins: &'a mut [u32],
+    heads: &'a mut [u32],
+    nexts: &'a mut [u32],
+}
+
+impl<'a> Parts<'a> {
+    fn split(numbers: &'a mut [u32], nodes: usize, records: usize) -> Self
+        requires { 4 * records + 2 * nodes ≤ length numbers.old }
+        ensures { Cut nodes records result }
+    {
+        let (binders, rest) = numbers.split_at_mut(nodes);
+        let (roots, rest) = rest.split_at_mut(nodes);
+        let (marks, rest) = rest.split_at_mut(records);
+        let (origins, rest) = rest.split_at_mut(records);
+        let (heads, rest) = rest.split_at_mut(records);
+        let (nexts, _) = rest.split_at_mut(records);
+        Parts {
+            binders,
+            roots,
+            marks,
+            origins,
+            heads,
+            nexts,
+        }
+    }
+
+    // The work on a term that has nodes.
+    fn list<E: Source, K: Source>(
+        self,
+        entries: &E,
+        kept: &K,
+        terms: &[TermNode],
+        memory: &mut [TypeNode],
+        places: &mut [u16],
+    ) -> Option<usize>
+        requires some { 0 < length terms.now }
+        requires records { length memory.old ≡ need (E.Source.list entries.now) (K.Source.list kept.now) terms.now }
+        requires few { length memory.old ≤ 4096 }
+        requires nodes { length places.old ≤ length terms.now }
+        requires cut { Cut (length terms.now) (length memory.old) self }
+        ensures { Listing (E.Source.list entries.now) (K.Source.list kept.now) terms.now places.new memory.new result }
+    {
+        let Parts {
+            binders,
+            roots,
+            marks,
+            origins,
+            heads,
+            nexts,
+        } = self;
+        let Some(used) = infer(entries, kept, terms, binders, roots, marks, memory) else {
             clear(memory);
-            None
-        }
-        Some(used) => {
-            let wanted = &mut roots[..places.len()];
-            match list_types(memory, used, wanted, marks, origins, heads, nexts) {
-                Ok(count) => {
-                    narrow(wanted, places);
-                    Some(count)
-                }
-                Err(Looped::Loop) => None,
-            }
-        }
+            return None;
+        };
+        let wanted = &mut roots[..places.len()];
+        let Ok(count) = list_types(memory, used, wanted, marks, origins, heads, nexts) else {
+            return None;
+        };
+        narrow(wanted, places);
+        Some(count)
     }
 }
 
@@ -106,19 +114,10 @@ pub fn list_nodes<E: Source, K: Source>(
     requires room { 4 * length memory.old + 2 * length terms.now ≤ length numbers.old }
     ensures { Listing (E.Source.list entries.now) (K.Source.list kept.now) terms.now places.new memory.new result }
 {
-    let nodes = terms.len();
-    if nodes == 0 {
+    if terms.is_empty() {
         clear(memory);
         return None;
     }
-    let records = memory.len();
-    let (binders, rest) = numbers.split_at_mut(nodes);
-    let (roots, rest) = rest.split_at_mut(nodes);
-    let (marks, rest) = rest.split_at_mut(records);
-    let (origins, rest) = rest.split_at_mut(records);
-    let (heads, rest) = rest.split_at_mut(records);
-    let (nexts, _) = rest.split_at_mut(records);
-    list_parts(
-        entries, kept, terms, memory, places, binders, roots, marks, origins, heads, nexts,
-    )
+    let parts = Parts::split(numbers, terms.len(), memory.len());
+    parts.list(entries, kept, terms, memory, places)
 }

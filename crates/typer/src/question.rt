@@ -1,8 +1,9 @@
 // The questions that are put before a term is typed.
 ghost use Rattle.std.specs.Prelude.{◌≡◌, ℕ, ◌<◌, ◌≤◌, length, MatchOption, MatchResult};
 ghost use Rattle.infer.specs.Heads.{need};
-ghost use Rattle.typer.specs.Faults.{says, derive_says};
-ghost use Rattle.typer.specs.Derivations.{Roomy, Roomless};
+ghost use Rattle.typer.specs.Faults.{says, derive_says, of_derivation};
+ghost use Rattle.typer.specs.Derivations.{Fits, NotFits, Roomy, Roomless};
+ghost use Rattle.typer.specs.declared.fault.TypesFault.TheVariants.{NoNumberRoom};
 ghost use Rattle.typer.specs.Questions.{numbers_for, Few, Served, Unserved};
 
 use crate::fault::{DeriveFault, TypesFault};
@@ -23,15 +24,39 @@ pub fn few_records<E: Source, K: Source>(entries: &E, kept: &K, terms: &[TermNod
     ensures { MatchOption result (4096 < need (E.Source.list entries.now) (K.Source.list kept.now) terms.now) (λ n. Few (need (E.Source.list entries.now) (K.Source.list kept.now) terms.now) n) }
 {
     let mut sum = 0;
-    let mut i = 0;
-    while i < terms.len() {
-        sum += needed(entries, kept, &[terms[i]]);
+    for term in terms {
+        sum += needed(entries, kept, &[*term]);
         if sum > MOST_NODES {
             return None;
         }
-        i += 1;
     }
     Some(sum)
+}
+
+// How many records a term needs, if a type memory of `types` records has as many.
+fn ask_records<E: Source, K: Source>(
+    entries: &E,
+    kept: &K,
+    terms: &[TermNode],
+    types: usize,
+) -> Result<usize, TypesFault>
+    ensures { MatchResult result (λ n. (n ≡ need (E.Source.list entries.now) (K.Source.list kept.now) terms.now) × Fits (need (E.Source.list entries.now) (K.Source.list kept.now) terms.now) types) (λ f. NotFits (need (E.Source.list entries.now) (K.Source.list kept.now) terms.now) types f) }
+{
+    let records = few_records(entries, kept, terms).ok_or(TypesFault::TooMuch)?;
+    if types < records {
+        return Err(TypesFault::NoTypeRoom);
+    }
+    Ok(records)
+}
+
+// Whether a number memory of `numbers` numbers has as many as the work takes.
+fn ask_numbers(records: usize, nodes: usize, numbers: usize) -> Result<(), TypesFault>
+    ensures { MatchResult result (λ _. numbers_for records nodes ≤ numbers) (λ f. (f ≡ NoNumberRoom) × (numbers < numbers_for records nodes)) }
+{
+    if (numbers as u128) < numbers_needed(records, nodes) {
+        return Err(TypesFault::NoNumberRoom);
+    }
+    Ok(())
 }
 
 // Whether a term can be typed in a type memory of `types` records and a number memory of `numbers` numbers: how many
@@ -45,17 +70,22 @@ pub fn ask<E: Source, K: Source>(
 ) -> Result<usize, TypesFault>
     ensures { MatchResult result (λ n. Served (need (E.Source.list entries.now) (K.Source.list kept.now) terms.now) (length terms.now) types numbers n) (λ f. Unserved (need (E.Source.list entries.now) (K.Source.list kept.now) terms.now) (length terms.now) types numbers (says f)) }
 {
-    let records = match few_records(entries, kept, terms) {
-        Some(records) => records,
-        None => return Err(TypesFault::TooMuch),
-    };
-    if types < records {
-        return Err(TypesFault::NoTypeRoom);
-    }
-    if (numbers as u128) < numbers_needed(records, terms.len()) {
-        return Err(TypesFault::NoNumberRoom);
-    }
+    let records = ask_records(entries, kept, terms, types)?;
+    ask_numbers(records, terms.len(), numbers)?;
     Ok(records)
+}
+
+// The same answer, said of a derivation.
+impl From<TypesFault> for DeriveFault {
+    ghost from_gives = { λ f d. d ≡ of_derivation f };
+
+    fn from(fault: TypesFault) -> DeriveFault {
+        match fault {
+            TypesFault::TooMuch | TypesFault::NoTypeRoom => DeriveFault::NoTypeRoom,
+            TypesFault::NoNumberRoom => DeriveFault::NoNumberRoom,
+            TypesFault::NoType => DeriveFault::NoType,
+        }
+    }
 }
 
 // Whether the derivation of a term has room in memories of so many records, places and numbers: how many records it
@@ -70,18 +100,10 @@ pub fn ask_derivation<E: Source, K: Source>(
 ) -> Result<usize, DeriveFault>
     ensures { MatchResult result (λ n. Roomy (need (E.Source.list entries.now) (K.Source.list kept.now) terms.now) (length terms.now) types places numbers n) (λ f. Roomless (need (E.Source.list entries.now) (K.Source.list kept.now) terms.now) (length terms.now) types places numbers (derive_says f)) }
 {
-    let records = match few_records(entries, kept, terms) {
-        Some(records) => records,
-        None => return Err(DeriveFault::NoTypeRoom),
-    };
-    if types < records {
-        return Err(DeriveFault::NoTypeRoom);
-    }
+    let records = ask_records(entries, kept, terms, types)?;
     if places < terms.len() {
         return Err(DeriveFault::NoPlaceRoom);
     }
-    if (numbers as u128) < numbers_needed(records, terms.len()) {
-        return Err(DeriveFault::NoNumberRoom);
-    }
+    ask_numbers(records, terms.len(), numbers)?;
     Ok(records)
 }

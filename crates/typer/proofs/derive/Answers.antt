@@ -1,47 +1,22 @@
-use Rattle.std.proofs.Common.{◌≡◌, ◌≤◌, length, drop, refl, arith}
-use Rattle.std.proofs.lemmas.List.{length-take-le}
+use Rattle.std.proofs.Common.{refl, arith, rules}
 use Rattle.std.proofs.lemmas.Result.{err_from_is_err_and}
-use Rattle.types.specs.Lists.{zero_node}
-use Rattle.typer.specs.Derivations.{roomless, no_type}
-use Rattle.typer.proofs.Wholes.{rest_written, all_zeros}
-use Rattle.typer.proofs.Renamed.{derived}
+use Rattle.typer.specs.Derivations.{roomless}
+use Rattle.typer.proofs.Renamed.{derivation_answered, nodes_answered}
 use Rattle.typer.proofs.derive.Goals as goal
 
-pub returns-in_err-records : goal.returns-in_err-records
-returns-in_err-records g c =
+pub returns-in_err-records-clause-answer : goal.returns-in_err-records-clause-answer
+returns-in_err-records-clause-answer g c =
     let p = err_from_is_err_and c.from_residual.result c.from_residual.ensures.1 in
-    rw (p.1, p.2) (record { answer = roomless c.in_err-records.ensures refl refl refl; held = tt; nodes = tt })
+    rw (p.1, p.2) (roomless c.in_err-records.ensures refl refl refl)
 
-pub returns-in-Some : goal.returns-in-Some
-returns-in-Some g c =
-    let a = c.in_ok-records.records in
-    let b = length c.args.terms.now in
-    let q = c.in_ok-records.ensures in
-    let sub = c.list_nodes-found.new.memory in
-    let qs = c.list_nodes-found.new.places in
-    let served : a ≤ length c.args.types.now = omega (arith, q.is, q.holds.serves.records) in
-    let front : length sub ≡ a = omega (arith, c.list_nodes-found.auto.memory, length-take-le a c.args.types.now served) in
-    let placed : length qs ≡ b = omega (arith, c.list_nodes-found.auto.places, length-take-le b c.args.places.now q.holds.wide) in
-    let d =
-    derived _ _ _ (g.E.Source.lawful c.args.entries.now) (g.K.Source.lawful c.args.kept.now) qs c.clear_places.new.places _ sub c.clear.new.memory _ _ _
-    placed (omega (arith, q.is)) (omega (arith, q.is, q.holds.serves.few)) c.in-Some.ensures c.clear.ensures
-    (rest_written sub (drop a c.args.types.now) c.clear.new.memory a _ front refl) c.clear_places.ensures
-    (rest_written qs (drop b c.args.places.now) c.clear_places.new.places b _ placed refl) c.clear_numbers.ensures in
-    record { answer = d.derived; held = q.holds; nodes = d }
+pub returns-clause-answer : goal.returns-clause-answer
+returns-clause-answer g c =
+    let w = c.work.ensures in
+    rw c.ok_or.ensures.value
+    (derivation_answered _ _ _ (g.E.Source.lawful c.args.entries.now) (g.K.Source.lawful c.args.kept.now) c.work.new.places c.fill.new.self _ _ _ _ _ _ (omega (arith, c.work.auto.places, c.split_at_mut-own.ensures.front_len)) c.in_ok-records.ensures.holds (search rules) refl w.zeros c.work.result w.listing w.places)
 
-pub returns-in-None : goal.returns-in-None
-returns-in-None g c =
-    let a = c.in_ok-records.records in
-    let q = c.in_ok-records.ensures in
-    let sub = c.list_nodes-found.new.memory in
-    let o = c.in-None.ensures in
-    let served : a ≤ length c.args.types.now = omega (arith, q.is, q.holds.serves.records) in
-    let front : length sub ≡ a = omega (arith, c.list_nodes-found.auto.memory, length-take-le a c.args.types.now served) in
-    record {
-      answer =
-          no_type q.holds o.none
-          (all_zeros zero_node sub c.clear.new.memory _ o.clear c.clear.ensures (rest_written sub (drop a c.args.types.now) c.clear.new.memory a _ front refl))
-          c.clear_places-in-None.ensures c.clear_numbers.ensures;
-      held = tt;
-      nodes = tt;
-    }
+pub returns-clause-nodes : goal.returns-clause-nodes
+returns-clause-nodes g c =
+    let w = c.work.ensures in
+    rw c.ok_or.ensures.value
+    (nodes_answered _ _ _ (g.E.Source.lawful c.args.entries.now) (g.K.Source.lawful c.args.kept.now) c.work.new.places c.fill.new.self c.args.places.now _ c.args.types.now _ c.args.numbers.now _ (omega (arith, c.work.auto.places, c.split_at_mut-own.ensures.front_len)) c.in_ok-records.ensures.holds (search rules) refl w.zeros c.work.result w.listing)

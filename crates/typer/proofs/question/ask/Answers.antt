@@ -1,15 +1,17 @@
 use Rattle.std.proofs.Common.{arith}
-use Rattle.typer.specs.Questions.{too_much, no_type_room, no_number_room}
+use Rattle.std.proofs.lemmas.Result.{err_from_is_err_and}
+use Rattle.typer.specs.Questions.{no_number_room}
+use Rattle.typer.proofs.Refusing.{not_fitting}
 use Rattle.typer.proofs.question.ask.Goals as goal
 
-pub returns-in-None : goal.returns-in-None
-returns-in-None g c = too_much c.in-None.ensures
+pub returns-in_err-records : goal.returns-in_err-records
+returns-in_err-records g c =
+    let p = err_from_is_err_and c.from_residual.result c.from_residual.ensures.1 in
+    rw (p.1, p.2) (not_fitting _ _ _ _ _ c.in_err-records.ensures)
 
-pub returns-then-types-records : goal.returns-then-types-records
-returns-then-types-records g c = let e = c.in-Some.ensures in no_type_room e.few (omega arith)
-
-pub returns-then-numbers-numbers_needed : goal.returns-then-numbers-numbers_needed
-returns-then-numbers-numbers_needed g c = let e = c.in-Some.ensures in no_number_room e.few (omega arith) (omega arith)
-
-pub returns : goal.returns
-returns g c = let e = c.in-Some.ensures in record { is = e.is; serves = record { few = e.few; records = omega arith; enough = omega arith } }
+pub returns-in_err-ask_numbers : goal.returns-in_err-ask_numbers
+returns-in_err-ask_numbers g c =
+    let p = err_from_is_err_and c.from_residual-in_err-ask_numbers.result c.from_residual-in_err-ask_numbers.ensures.1 in
+    let q = c.in_ok-records.ensures in
+    let e = c.in_err-ask_numbers.ensures in
+    rw (p.1, p.2, e.0) (no_number_room q.1.few q.1.records (omega (arith, q.0, e.1)))

@@ -1,10 +1,7 @@
-use Rattle.std.proofs.Common.{◌≡◌, ◌+◌, ◌-◌, ◌≤◌, length, drop}
+use Rattle.std.proofs.Common.{◌≡◌, ◌+◌, ◌≤◌, drop}
 use Rattle.infer.specs.Heads.{need}
 use Rattle.typer.proofs.question.few_records.Given as goal
 
-abbrev pub invariant-loop-i : goal.invariant-loop-i
-invariant-loop-i g l =
-    (l.i ≤ length l.terms) × (l.sum + need (g.E.Source.list l.entries) (g.K.Source.list l.kept) (drop l.i l.terms) ≡ need (g.E.Source.list l.entries) (g.K.Source.list l.kept) l.terms) × (l.sum ≤ 4096)
-
-abbrev pub decreases-loop-i : goal.decreases-loop-i
-decreases-loop-i g l = length l.terms - l.i
+abbrev pub invariant-loop-term : goal.invariant-loop-term
+invariant-loop-term g l =
+    (l.sum + need (g.E.Source.list l.entries) (g.K.Source.list l.kept) (drop l.term-index l.terms) ≡ need (g.E.Source.list l.entries) (g.K.Source.list l.kept) l.terms) × (l.sum ≤ 4096)

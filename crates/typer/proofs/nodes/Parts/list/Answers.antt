@@ -1,7 +1,7 @@
 use Rattle.std.proofs.Common.{◌≡◌, ◌<◌, ◌≤◌, length, take, arith}
 use Rattle.std.proofs.lemmas.List.{length-take-le, get_or-take}
-use Rattle.typer.proofs.Solved.{no_solution, within, places_below, nodes_listed}
-use Rattle.typer.proofs.nodes.list_parts.Goals as goal
+use Rattle.typer.proofs.Solved.{within, places_below, nodes_listed}
+use Rattle.typer.proofs.nodes.Parts.list.Goals as goal
 
 pub list_types-requires : goal.list_types-requires
 list_types-requires g c =
@@ -41,21 +41,12 @@ narrow-requires g c =
           );
     }
 
-pub returns-in-Ok : goal.returns-in-Ok
-returns-in-Ok g c =
+pub returns : goal.returns
+returns g c =
     let i = c.in-Some.ensures in
     let k = length c.args.places.now in
     let ps = c.infer.new.places in
     let fits : c.in-Some.used ≤ length c.infer.new.memory = omega (arith, i.needed, c.infer.auto.memory) in
     let long : length ps ≡ length c.args.terms.now = omega (arith, c.infer.auto.places) in
     let same : length c.narrow.new.places ≡ k = c.narrow.auto.places in
-    nodes_listed _ _ _ ps _ _ fits long i k c.requires.nodes _ _ _ c.in-Ok.ensures c.requires.some c.narrow.new.places same (λ p h. c.narrow.ensures p (omega arith))
-
-pub returns-in-Err-Loop : goal.returns-in-Err-Loop
-returns-in-Err-Loop g c =
-    let i = c.in-Some.ensures in
-    let ps = c.infer.new.places in
-    let fits : c.in-Some.used ≤ length c.infer.new.memory = omega (arith, i.needed, c.infer.auto.memory) in
-    let long : length ps ≡ length c.args.terms.now = omega (arith, c.infer.auto.places) in
-    let u = c.in-Err-Loop.ensures in
-    record { none = no_solution _ _ _ ps _ _ fits long i u.0; clear = u.1 }
+    nodes_listed _ _ _ ps _ _ fits long i k c.requires.nodes _ _ _ c.in-Ok.ensures c.requires.some (omega (arith, c.requires.records, c.infer.auto.memory, c.list_types.auto.memory)) c.narrow.new.places same (λ p h. c.narrow.ensures p (omega arith))
