@@ -32,10 +32,6 @@ use Rattle.book.specs.Judging.{Admits, NotAdmitted, Workable, Listed, NotListed,
 use Rattle.book.specs.Judging as judging
 use Rattle.book.proofs.Standing.{count_is, is_free, is_open, lists_are, terms_count, types_count}
 
--- what the typer says of a most general type is what the theory says
-pub most_general : {E K : Lists} {t : Term} {τ : Ty} → typer.PrincipalType E K t τ → MostGeneral E K t τ
-most_general p = record { has = p.type; most = p.general }
-
 -- a term that serves is refused by the typer only for having no type
 pub not_typed : (E K : Lists) (v : View) (ts : List TermNode) (types types' : List TypeNode) (numbers numbers' : List ℕ) {r : Refusal} → Workable E K v ts (length types) (length numbers) → typer.Refuses E K ts types types' numbers numbers' r → NotListed E K v ts (length types) (length numbers) r
 not_typed E K v ts types types' numbers numbers' w (typer.unserved u e f) = unserved u
@@ -135,7 +131,7 @@ module _ (es : List Entry) (v : View) (l : Ledger) (st : Stands es v l) (s : Sub
       record {
         term = a.term;
         type = typed.type;
-        submitted = record { ready = is_ready d.workable; principal = is_principal typed.type (λ u e. most_general (typed.principal u e)); fits = omega (arith, types_count v l st.shows admits.free, d.fits, typed.count) };
+        submitted = record { ready = is_ready d.workable; principal = is_principal typed.type typed.principal; fits = omega (arith, types_count v l st.shows admits.free, d.fits, typed.count) };
         nodes = term_front es (length v.rows) s.text terms n a;
         records = front_of types' (normal_of typed.type) _ m typed.holds typed.count;
       }

@@ -19,14 +19,16 @@ use Rattle.normal.specs.Laws.{Proper, Simple, numbered}
 use Rattle.normal.specs.Built.{none}
 use Rattle.normal.proofs.Parts.{parts_built}
 use Rattle.normal.proofs.Meaning.{normal_means, normal_once, normal_lawful, normal_begins, parts_have, variable_at, renumbered, apply_apply}
-use Rattle.normal.proofs.Rename.{mutual_keeps_list, renaming_keeps_list}
+use Rattle.normal.proofs.Rename.{renaming_keeps_list}
+use Rattle.theory.specs.Principal.{LawfulLists}
+use Rattle.theory.proofs.Principals.{principal_is_one}
 use Rattle.typer.specs.Answers.{PrincipalType, PrincipalTyping, Zeros, OneTypeList, OneTypingList}
 use Rattle.typer.specs.Nodes.{of, NodesListed, Listing}
 use Rattle.typer.specs.Derivations.{Holds, Derived, DerivedNodes, Underived, no_type}
 use Rattle.typer.specs.Faults.{derive_says}
 use Rattle.typer.specs.declared.fault.DeriveFault.{DeriveFault}
 use Rattle.typer.specs.declared.fault.DeriveFault.TheVariants as Derive
-use Rattle.typer.proofs.Mapped.{typing_mapped, list_applied, principal_type, principal_simple}
+use Rattle.typer.proofs.Mapped.{typing_mapped, applied, principal_type, principal_simple}
 use Rattle.typer.proofs.Wholes.{all_zeros}
 
 module _ (E K : Lists) (t : Term) (us : List Ty) (proper : AllByRecursion Proper us) (long : length us ≡ size t) (d : PrincipalTyping E K t (of us)) where
@@ -37,7 +39,7 @@ module _ (E K : Lists) (t : Term) (us : List Ty) (proper : AllByRecursion Proper
       let ρ : ℕ → Ty = λ i. variable (rank ps i) in
       let built = parts_built us proper none in
       record {
-        typing = typing_same E K t [] (λ p. apply ρ (of us p)) T 0 (λ p _ h. sym (e p (omega arith))) (typing_mapped E K (apply ρ) (λ a b. refl) (λ k. list_applied (E k) ρ) (λ k. list_applied (K k) ρ) t [] (of us) 0 d.typing);
+        typing = typing_same E K t [] (λ p. apply ρ (of us p)) T 0 (λ p _ h. sym (e p (omega arith))) (typing_mapped E K (apply ρ) (applied E K ρ) t [] (of us) 0 d.typing);
         general = λ U x.
             let s = d.general U x in (
               λ j. apply s.0 (variable_at ps j),
@@ -47,10 +49,10 @@ module _ (E K : Lists) (t : Term) (us : List Ty) (proper : AllByRecursion Proper
             );
       }
 
-  simple : ((k : ℕ) → 0 < length (E k) → Lawful (E k)) → ((k : ℕ) → 0 < length (K k) → Lawful (K k)) → AllByRecursion Simple us
+  simple : LawfulLists E → LawfulLists K → AllByRecursion Simple us
   simple we wk = All-from_get_or Simple us (variable 0) (λ p h. principal_simple E K t (of us) d we wk p (omega arith))
 
-  pub derivation_lawful : ((k : ℕ) → 0 < length (E k) → Lawful (E k)) → ((k : ℕ) → 0 < length (K k) → Lawful (K k)) → length (normal us) ≤ 4096 → Lawful (normal us)
+  pub derivation_lawful : LawfulLists E → LawfulLists K → length (normal us) ≤ 4096 → Lawful (normal us)
   derivation_lawful we wk few = let s = some_node t in normal_lawful us (simple we wk) (omega arith) few
 
 begins_with : (us : List Ty) → 0 < length us → AllByRecursion Proper us → take (length (normal_of (of us 0))) (normal us) ≡ normal_of (of us 0)
@@ -59,10 +61,10 @@ begins_with (u ∷ us) h w = normal_begins (u ∷ []) us (w.0, tt)
 
 pub derivation_begins : (E K : Lists) (t : Term) (us : List Ty) → 0 < length us → AllByRecursion Proper us → PrincipalType E K t (of us 0) → (τ : Ty) → PrincipalType E K t τ → take (length (normal_of τ)) (normal us) ≡ normal_of τ
 derivation_begins E K t us h w p τ q =
-    let same : normal_of (of us 0) ≡ normal_of τ = mutual_keeps_list (of us 0) τ (p.general τ q.type) (q.general (of us 0) p.type) in
+    let same : normal_of (of us 0) ≡ normal_of τ = (principal_is_one E K t (of us 0) τ p q).2 in
     subst (λ (l : List TypeNode). take (length l) (normal us) ≡ l) same (begins_with us h w)
 
-module _ (E K : Lists) (ts : List TermNode) (we : (k : ℕ) → 0 < length (E k) → Lawful (E k)) (wk : (k : ℕ) → 0 < length (K k) → Lawful (K k)) where
+module _ (E K : Lists) (ts : List TermNode) (we : LawfulLists E) (wk : LawfulLists K) where
   derived : (qs more places : List ℕ) (types : List TypeNode) (numbers : List ℕ) (n : ℕ) → length qs ≡ length ts → need E K ts ≤ 4096 → NodesListed E K ts qs types n → Zeros more → places ≡ qs ++ more → Zeros numbers → DerivedNodes E K ts types places numbers n
   derived qs more places types numbers n one few l m pl z =
       let us = l.types in
@@ -113,7 +115,7 @@ module _ (E K : Lists) (ts : List TermNode) (we : (k : ℕ) → 0 < length (E k)
 -- ---- one list for all
 
 pub one_type_list : OneTypeList
-one_type_list E K t τ υ p q = mutual_keeps_list τ υ (p.general υ q.type) (q.general τ p.type)
+one_type_list E K t τ υ p q = (principal_is_one E K t τ υ p q).2
 
 all_instances : (t : Term) (us vs : List Ty) (σ : ℕ → Ty) → length us ≡ size t → length vs ≡ size t → ((p : ℕ) → p < size t → apply σ (of us p) ≡ of vs p) → map (apply σ) us ≡ vs
 all_instances t us vs σ lu lv e =

@@ -12,6 +12,7 @@ use Rattle.infer.specs.Heads.{need}
 use Rattle.infer.proofs.Typings.{some_node}
 use Rattle.normal.specs.Normal.{normal, normal_of}
 use Rattle.normal.proofs.Meaning.{normal_lawful}
+use Rattle.theory.specs.Principal.{LawfulLists}
 use Rattle.typer.specs.Answers.{Typed, Refuses, no_type, Cleared, Zeros}
 use Rattle.typer.specs.Faults.{says}
 use Rattle.typer.specs.Questions.{Serves}
@@ -65,7 +66,7 @@ take_one : (us : List Ty) → 0 < length us → take 1 us ≡ of us 0 ∷ []
 take_one [] h = absurd (omega arith)
 take_one (u ∷ us) h = refl
 
-module _ (E K : Lists) (ts : List TermNode) (we : (k : ℕ) → 0 < length (E k) → Lawful (E k)) (wk : (k : ℕ) → 0 < length (K k) → Lawful (K k)) where
+module _ (E K : Lists) (ts : List TermNode) (we : LawfulLists E) (wk : LawfulLists K) where
   typed : (qs : List ℕ) (types : List TypeNode) (numbers : List ℕ) (n : ℕ) → length qs ≡ 1 → need E K ts ≤ 4096 → NodesListed E K ts qs types n → Zeros numbers → Typed E K ts types numbers n
   typed qs types numbers n one few l z =
       let τ = of l.types 0 in

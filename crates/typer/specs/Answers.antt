@@ -4,20 +4,20 @@ use Rattle.refusal.specs.Saying.{saying}
 use Rattle.refusal.specs.declared.Layer.TheVariants as layer
 use Rattle.refusal.specs.declared.Refusal.{Refusal}
 use Rattle.types.specs.declared.TypeNode.{TypeNode}
-use Rattle.types.specs.Types.{Ty, variable, apply, Instance}
+use Rattle.types.specs.Types.{Ty, variable, apply}
 use Rattle.types.specs.Lists.{zero_node, Lawful}
 use Rattle.term.specs.declared.TermNode.{TermNode}
 use Rattle.term.specs.Terms.{Term, prefix}
 use Rattle.copy.specs.Instances.{Lists}
-use Rattle.infer.specs.Typing.{size, Typing, HasType}
+use Rattle.infer.specs.Typing.{size, Typing}
 use Rattle.infer.specs.Heads.{need}
+use Rattle.theory.specs.Principal.{MostGeneral, Typeless}
 use Rattle.normal.specs.Normal.{normal, normal_of}
 use Rattle.typer.specs.Questions.{Serves, Unserved}
 
 -- τ is a type of t, and every type of t is an instance of it
-pub record PrincipalType (E K : Lists) (t : Term) (τ : Ty) : Type 0 where
-  pub type : HasType E K [] t τ
-  pub general : (υ : Ty) → HasType E K [] t υ → Instance τ υ
+abbrev pub PrincipalType : Lists → Lists → Term → Ty → Type 0
+PrincipalType E K t τ = MostGeneral E K t τ
 
 -- T gives the nodes of t types by the typing steps, and every typing of t is an instance of it, by one substitution
 pub record PrincipalTyping (E K : Lists) (t : Term) (T : ℕ → Ty) : Type 0 where
@@ -26,7 +26,7 @@ pub record PrincipalTyping (E K : Lists) (t : Term) (T : ℕ → Ty) : Type 0 wh
 
 -- no term with these nodes has a type
 abbrev pub NoTypes : Lists → Lists → List TermNode → Type 0
-NoTypes E K ts = (t : Term) → prefix t ≡ ts → (τ : Ty) → HasType E K [] t τ → ⊥
+NoTypes E K ts = (t : Term) → prefix t ≡ ts → Typeless E K t
 
 abbrev pub Cleared : List TypeNode → Type 0
 Cleared memory = memory ≡ replicate (length memory) zero_node

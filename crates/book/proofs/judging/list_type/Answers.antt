@@ -1,7 +1,7 @@
 use Rattle.std.proofs.Common.{refl, arith}
 use Rattle.std.proofs.lemmas.Result.{err_from_is_err_and}
 use Rattle.book.specs.Judging.{unserved, crowded, overfull}
-use Rattle.book.proofs.Judgements.{most_general, not_typed}
+use Rattle.book.proofs.Judgements.{not_typed}
 use Rattle.book.proofs.judging.list_type.Goals as goal
 
 pub returns-in_err-ask : goal.returns-in_err-ask
@@ -21,7 +21,7 @@ returns-in_err-records g c =
 pub returns-then-used_types-records-gt-MOST_TYPE_NODES : goal.returns-then-used_types-records-gt-MOST_TYPE_NODES
 returns-then-used_types-records-gt-MOST_TYPE_NODES g c =
     let t = c.in_ok-records.ensures.answer in (
-      overfull (record { serves = c.in_ok-ask.ensures.serves; fits = omega (arith, c.used_terms.ensures.nodes, c.if-used_terms-term-gt-MOST_TERM_NODES.false) }) (λ u e. most_general (t.principal u e))
+      overfull (record { serves = c.in_ok-ask.ensures.serves; fits = omega (arith, c.used_terms.ensures.nodes, c.if-used_terms-term-gt-MOST_TERM_NODES.false) }) t.principal
           (omega (arith, c.used_types.ensures.nodes, c.if-used_types-records-gt-MOST_TYPE_NODES.true, t.count)),
       refl,
     )
