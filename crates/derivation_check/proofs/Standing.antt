@@ -1,18 +1,14 @@
 -- Where the nodes of a term stand in a list in prefix order, and which abstractions are around them.
-use Rattle.std.proofs.Common.{◌≡◌, ℕ, zero, suc, ◌+◌, ◌-◌, ◌<◌, ◌≤◌, Bool, true, false, cond, ◌&&◌, ltb, ◌≢◌, List, [], ◌∷◌, ◌++◌, length, get_or, drop, Some, None, Option, sym, refl, ap, ◌∙◌, subst, ap₂, ⊎_elim, arith, length-append}
-use Rattle.std.proofs.lemmas.List.{append_assoc, drop_more, drop-drop, length-drop}
-use Rattle.std.proofs.lemmas.Bool.{cases_eq, cases_Bool, lt-ltb, le-ltb, ltb-true, and_left, and_right, and_from}
+use Rattle.std.proofs.Common.{◌≡◌, ℕ, zero, suc, ◌+◌, ◌-◌, ◌<◌, ◌≤◌, Bool, true, false, cond, ◌&&◌, ltb, ◌≢◌, List, [], ◌∷◌, ◌++◌, length, get_or, drop, Some, Option, sym, refl, ap, ◌∙◌, subst, ap₂, ⊎_elim, arith, length-append}
+use Rattle.std.specs.List.{slice_get}
+use Rattle.std.proofs.lemmas.Bool.Decides.{nat_tests}
+use Rattle.std.proofs.lemmas.List.{drop_at, append_assoc, drop_more, drop-drop, length-drop}
+use Rattle.std.proofs.lemmas.Bool.{cases_eq, lt-ltb, le-ltb, and_left, and_right, and_from}
 use Rattle.term.specs.Terms.{Term, variable, abstraction, application, primitive, reference, prefix, zero_node}
 use Rattle.term.specs.Symbols.{symbol_of}
 use Rattle.term.specs.declared.TermNode.{TermNode}
 use Rattle.derivation_check.specs.Prefixes.{arity, is_abstraction, span, end, opens, binder}
 use Rattle.derivation_check.proofs.Spans.{span_add}
-
--- the n-th of a list, if there is one
-abbrev pub nth : List ℕ → ℕ → Option ℕ
-nth [] n = None
-nth (x ∷ xs) zero = Some x
-nth (x ∷ xs) (suc n) = nth xs n
 
 pub some_nodes : (u : Term) → 0 < length (prefix u)
 some_nodes (variable n) = omega arith
@@ -58,23 +54,7 @@ nest (x ∷ xs) (suc n) (suc i) h =
     omega (arith, r)
 
 same_ltb : (a b c : ℕ) → (a < c → b < c) → (b < c → a < c) → ltb a c ≡ ltb b c
-same_ltb a b c f g =
-    ⊎_elim
-    (λ (e : ltb a c ≡ true). e ∙ sym (lt-ltb b c (f (ltb-true a c e))))
-    (λ (e : ltb a c ≡ false). ⊎_elim (λ (d : ltb b c ≡ true). lt-ltb a c (g (ltb-true b c d)) ∙ sym d) (λ (d : ltb b c ≡ false). e ∙ sym d) (cases_Bool (ltb b c)))
-    (cases_Bool (ltb a c))
-
-abbrev head_of : TermNode → List TermNode → TermNode
-head_of d [] = d
-head_of d (x ∷ xs) = x
-
-abbrev tail_of : List TermNode → List TermNode
-tail_of [] = []
-tail_of (x ∷ xs) = xs
-
-drop_over : (xs ys : List TermNode) → drop (length xs) (xs ++ ys) ≡ ys
-drop_over [] ys = refl
-drop_over (x ∷ xs) ys = drop_over xs ys
+same_ltb a b c f g = grind (arith, nat_tests, f, g)
 
 -- the node x is at i, and xs are behind it
 pub record Here (ts : List TermNode) (i : ℕ) (x : TermNode) (xs : List TermNode) : Type 0 where
@@ -89,14 +69,14 @@ module _ (ts : List TermNode) where
 
   -- the abstractions around i are at bs, the innermost first
   abbrev pub Scope : ℕ → List ℕ → Type 0
-  Scope i bs = (n : ℕ) → binder ts i i n ≡ nth bs n
+  Scope i bs = (n : ℕ) → binder ts i i n ≡ slice_get bs n
 
   pub here : (i : ℕ) (x : TermNode) (xs : List TermNode) → drop i ts ≡ x ∷ xs → Here ts i x xs
   here i x xs e =
       let f = ap (λ (ys : List TermNode). length ys) e in
       let h : i < length ts = omega (arith, f, length-drop i ts) in
       let d = sym (drop_more ts i zero_node h) ∙ e in
-      record { inside = h; is = ap (head_of zero_node) d; behind = ap tail_of d }
+      record { inside = h; is = cc; behind = cc }
 
   pub at_inside : (u : Term) (i : ℕ) (rest : List TermNode) → At u i rest → i < length ts
   at_inside u i rest e =
@@ -151,7 +131,7 @@ module _ (ts : List TermNode) where
       o : opens ts (i + 1) i ≡ true
       o = and_from (is_abstraction (symbol_of (get_or ts i zero_node))) (ltb (i + 1) (end ts i)) k (lt-ltb (i + 1) (end ts i) l)
 
-      go : (n : ℕ) → binder ts (i + 1) (suc i) n ≡ nth (i ∷ bs) n
+      go : (n : ℕ) → binder ts (i + 1) (suc i) n ≡ slice_get (i ∷ bs) n
       go zero = ap (λ (t : Bool). cond t (Some i) (binder ts (i + 1) i zero)) o
       go (suc m) = ap (λ (t : Bool). cond t (binder ts (i + 1) i m) (binder ts (i + 1) i (suc m))) o ∙ same_binder (i + 1) i i m (around i (i + 1) (omega arith) l) ∙ s m
 
@@ -179,7 +159,7 @@ parts_of ts f x i rest bs at sc =
     let mid = end_term ts f (i + 1) (prefix x ++ rest) atf in
     let c = 1 + length (prefix f) in
     let place : i + c ≡ i + 1 + length (prefix f) = omega arith in
-    let far : At ts x (i + 1 + length (prefix f)) rest = sym (drop-drop (length (prefix f)) (i + 1) ts) ∙ ap (drop (length (prefix f))) atf ∙ drop_over (prefix f) (prefix x ++ rest) in
+    let far : At ts x (i + 1 + length (prefix f)) rest = sym (drop-drop (length (prefix f)) (i + 1) ts) ∙ ap (drop (length (prefix f))) atf ∙ drop_at (prefix f) (prefix x ++ rest) (length (prefix f)) refl in
     let lf : i + 1 < end ts i = omega (arith, whole, size, some_nodes f) in
     let lx : i + c < end ts i = omega (arith, whole, size, some_nodes x) in
     let scx : Scope ts (i + c) bs = scope_same ts i c bs lx

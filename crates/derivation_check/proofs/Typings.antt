@@ -1,5 +1,6 @@
 -- The steps of a term's nodes are its typings.
 use Rattle.std.proofs.Common.{◌≡◌, ℕ, zero, suc, ◌+◌, ◌<◌, ◌≤◌, ◌≢◌, List, [], ◌∷◌, ◌++◌, map, length, get_or, Some, sym, refl, ap, ◌∙◌, subst, ⊎_elim, arith, length-append}
+use Rattle.std.specs.List.{slice_get}
 use Rattle.std.proofs.lemmas.List.{append-nil}
 use Rattle.std.proofs.lemmas.Bool.{cases_eq, cases_lt}
 use Rattle.types.specs.Types.{Ty, base, arrow}
@@ -11,13 +12,13 @@ use Rattle.infer.specs.Typing.{Typing}
 use Rattle.instance.proofs.Places.{left_of}
 use Rattle.derivation_check.specs.Prefixes.{is_abstraction, end}
 use Rattle.derivation_check.specs.Steps.{StepOf, Step, StepsAreTypings}
-use Rattle.derivation_check.proofs.Standing.{nth, some_nodes, At, Scope, here, at_inside, end_term, scope_more, parts_of}
+use Rattle.derivation_check.proofs.Standing.{some_nodes, At, Scope, here, at_inside, end_term, scope_more, parts_of}
 
 -- the types of the binders at bs: those from which their abstractions have arrows
 abbrev context : (ℕ → Ty) → List ℕ → List Ty
 context T bs = map (λ (b : ℕ). left_of (T b)) bs
 
-context_at : (T : ℕ → Ty) (bs : List ℕ) (n b : ℕ) → nth bs n ≡ Some b → (n < length (context T bs)) × (get_or (context T bs) n (base 0) ≡ left_of (T b))
+context_at : (T : ℕ → Ty) (bs : List ℕ) (n b : ℕ) → slice_get bs n ≡ Some b → (n < length (context T bs)) × (get_or (context T bs) n (base 0) ≡ left_of (T b))
 context_at T [] n b e = cc
 context_at T (c ∷ bs) zero b e = (omega arith, ap (λ (x : ℕ). left_of (T x)) (let q : c ≡ b = cc in q))
 context_at T (c ∷ bs) (suc n) b e =
@@ -26,7 +27,7 @@ context_at T (c ∷ bs) (suc n) b e =
 
 -- the abstractions at bs have arrows from the types of Γ
 abbrev Arrows : (ℕ → Ty) → List Ty → List ℕ → Type 0
-Arrows T Γ bs = (n : ℕ) → n < length Γ → (b : ℕ) × (nth bs n ≡ Some b) × ((β : Ty) × (T b ≡ arrow (get_or Γ n (base 0)) β))
+Arrows T Γ bs = (n : ℕ) → n < length Γ → (b : ℕ) × (slice_get bs n ≡ Some b) × ((β : Ty) × (T b ≡ arrow (get_or Γ n (base 0)) β))
 
 arrows_more : (T : ℕ → Ty) (Γ : List Ty) (bs : List ℕ) (i : ℕ) (α β : Ty) → T i ≡ arrow α β → Arrows T Γ bs → Arrows T (α ∷ Γ) (i ∷ bs)
 arrows_more T Γ bs i α β e f zero h = (i, refl, (β, e))

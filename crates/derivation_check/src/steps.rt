@@ -22,16 +22,12 @@ fn is_of_list<S: Source>(source: &S, k: u16, types: &[TypeNode], place: u16) -> 
     requires place { place < length types.now }
     ensures { Decides result (OfList (S.list source.now k) (type_at types.now place)) }
 {
-    let mut general = [TypeNode {
-        kind: 0,
-        left: 0,
-        right: 0,
-    }; MOST_NODES];
+    let mut general = [TypeNode::default(); MOST_NODES];
     let n = load(source, k, &mut general);
     if n == 0 {
         return false;
     }
-    fits(&general[0..n], types, place)
+    fits(&general[..n], types, place)
 }
 
 // Term nodes over the lists of a catalogue and of kept formulas, with types for the nodes.

@@ -20,7 +20,7 @@ use Rattle.normal.specs.Laws.{Proper}
 use Rattle.normal.specs.Built.{none}
 use Rattle.normal.proofs.Parts.{place_at}
 use Rattle.normal.proofs.Meaning.{parts_have}
-use Rattle.walk.specs.Listing.{Listed, Unsolvable}
+use Rattle.walk.specs.Listing.{Listed}
 use Rattle.typer.specs.Answers.{PrincipalTyping, NoTypes}
 use Rattle.typer.specs.Nodes.{of, NodesListed}
 
@@ -29,9 +29,6 @@ pub no_nodes : (E K : Lists) (ts : List TermNode) → length ts ≡ 0 → NoType
 no_nodes E K ts h t e τ d = let s = some_node t in let q = ap length e in absurd (omega arith)
 
 module _ (E K : Lists) (ts : List TermNode) (ps : List ℕ) (ws : List TypeNode) (n : ℕ) (fits : n ≤ length ws) (long : length ps ≡ length ts) (i : Inferred E K ts ps ws n) where
-  pub no_solution : Unsolvable (graph ws n) → NoTypes E K ts
-  no_solution u t e τ d = let w = (i.built t e).typable τ d in u w.0 w.1
-
   module _ (k : ℕ) (few : k ≤ length ts) (qs : List ℕ) (memory : List TypeNode) (m : ℕ) (l : Listed (graph ws n) (take k ps) qs memory m) where
     types : List Ty
     types = map l.found.types ps

@@ -5,7 +5,7 @@ use borrow.Rule.Slice.PartMut.{put_mid}
 use Rattle.std.proofs.lemmas.List.{length-append, take_at, drop_at, drop_all, replicate-append-replicate}
 use Rattle.types.specs.declared.TypeNode.{TypeNode}
 use Rattle.types.specs.Types.{Ty}
-use Rattle.types.specs.Lists.{zero_node, Lawful}
+use Rattle.types.specs.Lists.{zero_node}
 use Rattle.term.specs.declared.TermNode.{TermNode}
 use Rattle.copy.specs.Instances.{Lists}
 use Rattle.infer.specs.Heads.{need}

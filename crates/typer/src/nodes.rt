@@ -22,6 +22,7 @@ fn narrow(numbers: &[u32], places: &mut [u16])
     requires small { (k : ℕ) → k < length numbers.now → slice_index numbers.now k < 65536 }
     ensures { (k : ℕ) → k < length places.new → slice_index places.new k ≡ slice_index numbers.now k }
 {
+    // By the index: of a `zip` over `iter_mut` no proof knows what the places hold afterwards.
     for (k, place) in places.iter_mut().enumerate() {
         *place = numbers[k] as u16;
     }

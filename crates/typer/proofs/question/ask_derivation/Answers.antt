@@ -1,5 +1,6 @@
-use Rattle.std.proofs.Common.{arith}
+use Rattle.std.proofs.Common.{length, arith}
 use Rattle.std.proofs.lemmas.Result.{err_from_is_err_and}
+use Rattle.infer.specs.Heads.{need}
 use Rattle.typer.specs.Derivations.{no_place_room, no_number_room}
 use Rattle.typer.proofs.Refusing.{not_derivable}
 use Rattle.typer.proofs.question.ask_derivation.Goals as goal
@@ -7,7 +8,7 @@ use Rattle.typer.proofs.question.ask_derivation.Goals as goal
 pub returns-in_err-records : goal.returns-in_err-records
 returns-in_err-records g c =
     let p = err_from_is_err_and c.from_residual.result c.from_residual.ensures.1 in
-    rw (p.1, p.2) (not_derivable _ _ _ _ _ _ c.in_err-records.ensures)
+    rw (p.1, p.2) (not_derivable (need (g.E.Source.list c.args.term.now.entries.now) (g.K.Source.list c.args.term.now.kept.now) c.args.term.now.nodes.now) (length c.args.term.now.nodes.now) c.args.types c.args.places c.args.numbers _ c.in_err-records.ensures)
 
 pub returns-then-places-term : goal.returns-then-places-term
 returns-then-places-term g c = let q = c.in_ok-records.ensures in no_place_room q.1 c.if-places-term.true
