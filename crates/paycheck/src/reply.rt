@@ -33,10 +33,10 @@ pub fn reply(
     let entries = Entries {
         catalogue: &Builtin,
     };
-    let typed = type_term(&entries, &Nothing, &terms[0..count], types, numbers);
+    let typed = type_term(&entries, &Nothing, &terms[..count], types, numbers);
     let Entries { catalogue: _ } = entries;
     let records = typed?;
-    match show(&types[0..records], out) {
+    match show(&types[..records], out) {
         Ok(length) => Ok(length),
         Err(ShowFault::TooLong) => Err(LineFault::TooLong),
         // The list of a type is lawful.
