@@ -1,5 +1,5 @@
 -- A submit is answered as by the ledger.
-use Rattle.std.proofs.Common.{◌≡◌, ℕ, Bool, true, false, List, length, take, replicate, Some, sym, ap, subst, ap₂}
+use Rattle.std.proofs.Common.{◌≡◌, ℕ, Bool, true, false, List, length, replicate, Some, sym, ap, subst, ap₂}
 use Rattle.refusal.specs.declared.Refusal.{Refusal}
 use Rattle.types.specs.declared.TypeNode.{TypeNode}
 use Rattle.types.specs.Lists.{zero_node as no_type_node}

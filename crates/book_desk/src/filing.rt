@@ -40,7 +40,7 @@ impl Desk {
         Ok(number)
     }
 
-    // Submits a formula and dismisses it.
+    // Submits a formula and dismisses it. What files and what dismisses is one call each, so there is nothing to share.
     pub fn submit_and_dismiss<C: Catalogue>(
         &mut self,
         book: &mut Book<C>,

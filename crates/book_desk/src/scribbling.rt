@@ -65,6 +65,7 @@ impl Desk {
     }
 }
 
+// One chain for each memory: a generic one would compare by `==`, and say less than that the nodes are these.
 fn terms_are(terms: &[TermNode], value: u8) -> bool
     ensures { Decides result (TermsAre terms.now value) }
 {

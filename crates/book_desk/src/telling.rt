@@ -70,7 +70,8 @@ pub fn tell_passed(rt: &HostRuntime, name: &str, answer: Result<(), BookFault>) 
     tell_answer(rt, name, answer.map(|()| "passed"))
 }
 
-// Submits a formula, files it if it is taken up, and prints what came of it.
+// Submits a formula, files it if it is taken up, and prints what came of it. The book is lent by the one who made it, and
+// the desk by another: a struct of both would be made anew for each trial.
 pub fn attempt<C: Catalogue>(
     rt: &HostRuntime,
     book: &mut Book<C>,

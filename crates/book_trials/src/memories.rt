@@ -98,7 +98,7 @@ fn line_in<C: Catalogue>(
     Ok(book.line(Ok(0), &mut out))
 }
 
-// How long the type of formula 0 is, in so much room.
+// How long the type of formula 0 is, in so much room: a function of its own, for it promises another call.
 fn show_in<C: Catalogue>(
     heap: Global,
     book: &Book<C>,

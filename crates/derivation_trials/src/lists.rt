@@ -5,6 +5,7 @@ use catalogue::interface::Catalogue;
 use std::io;
 use types::TypeNode;
 
+// The nodes are written out, for a constant calls no function.
 const A: TypeNode = TypeNode {
     kind: 0,
     left: 0,

@@ -1,5 +1,5 @@
 -- What stands at the front of the memories that a line was read and typed in.
-use Rattle.std.proofs.Common.{◌≡◌, ℕ, ◌-◌, ◌≤◌, List, ◌++◌, length, take, Err, sym, ap, ◌∙◌, subst, arith}
+use Rattle.std.proofs.Common.{◌≡◌, ℕ, ◌≤◌, List, ◌++◌, length, take, Err, sym, ap, ◌∙◌, subst, arith}
 use Rattle.std.proofs.lemmas.List.{take_at}
 use Rattle.refusal.specs.Saying.{saying}
 use Rattle.refusal.specs.declared.Layer.TheVariants as layer
@@ -19,26 +19,26 @@ use Rattle.typer.specs.Answers.{Typed, NoTypes}
 use Rattle.typer.specs.Answers as typing
 use Rattle.paycheck.specs.Replies.{entries, nothing, Types, Refused, unserved, no_type, too_long}
 
-front_of : {X : Type 0} (m l r : List X) (n : ℕ) → m ≡ l ++ r → n ≡ length l → take (n - 0) m ≡ l
-front_of m l r n e f = let z : n - 0 ≡ n = omega arith in ap (λ k. take k m) z ∙ ap (take n) e ∙ take_at l r n (sym f)
+front_of : {X : Type 0} (m l r : List X) (n : ℕ) → m ≡ l ++ r → n ≡ length l → take n m ≡ l
+front_of m l r n e f = ap (take n) e ∙ take_at l r n (sym f)
 
 module _ (line : List ℕ) (terms : List TermNode) (n : ℕ) (a : Accepted builtin 0 line terms n) where
-  pub term_front : take (n - 0) terms ≡ prefix a.term
+  pub term_front : take n terms ≡ prefix a.term
   term_front = front_of terms (prefix a.term) _ n a.holds a.count
 
-  pub untyped : (types types' : List TypeNode) (numbers numbers' : List ℕ) (room bytes : ℕ) {r : Refusal} → length line ≤ 4096 → typing.Refuses entries nothing (take (n - 0) terms) types types' numbers numbers' r → Refused line room (length types) (length numbers) bytes r
+  pub untyped : (types types' : List TypeNode) (numbers numbers' : List ℕ) (room bytes : ℕ) {r : Refusal} → length line ≤ 4096 → typing.Refuses entries nothing (take n terms) types types' numbers numbers' r → Refused line room (length types) (length numbers) bytes r
   untyped types types' numbers numbers' room bytes h (typing.unserved {r = r} u e f) =
       unserved h a.formula (subst (λ ts. Unserved (need entries nothing ts) (length ts) (length types) (length numbers) r) term_front u)
   untyped types types' numbers numbers' room bytes h (typing.no_type s u e f) = no_type h a.formula (subst (NoTypes entries nothing) term_front u)
 
-  module _ (types : List TypeNode) (numbers : List ℕ) (m : ℕ) (t : Typed entries nothing (take (n - 0) terms) types numbers m) where
-    list_front : take (m - 0) types ≡ normal_of t.type
+  module _ (types : List TypeNode) (numbers : List ℕ) (m : ℕ) (t : Typed entries nothing (take n terms) types numbers m) where
+    list_front : take m types ≡ normal_of t.type
     list_front = front_of types (normal_of t.type) _ m t.holds t.count
 
-    pub lawful_front : Lawful (take (m - 0) types)
+    pub lawful_front : Lawful (take m types)
     lawful_front = subst Lawful (sym list_front) (t.lawful a.term (sym term_front))
 
-    pub types_line : (before after : List ℕ) (k : ℕ) → length line ≤ 4096 → Printed (take (m - 0) types) before after k → Types line before after k
+    pub types_line : (before after : List ℕ) (k : ℕ) → length line ≤ 4096 → Printed (take m types) before after k → Types line before after k
     types_line before after k h p =
         let q = subst (λ l. Printed l before after k) list_front p in
         record {
@@ -52,7 +52,7 @@ module _ (line : List ℕ) (terms : List TermNode) (n : ℕ) (a : Accepted built
           written = q.leaves;
         }
 
-    pub too_long_line : (before after : List ℕ) (room types_room numbers_room : ℕ) → length line ≤ 4096 → Overlong (take (m - 0) types) before after → Refused line room types_room numbers_room (length before) (saying 71 layer.Book 0)
+    pub too_long_line : (before after : List ℕ) (room types_room numbers_room : ℕ) → length line ≤ 4096 → Overlong (take m types) before after → Refused line room types_room numbers_room (length before) (saying 71 layer.Book 0)
     too_long_line before after room types_room numbers_room h p =
         let q = subst (λ l. Overlong l before after) list_front p in
         too_long h a.formula (t.principal a.term (sym term_front)) q.long

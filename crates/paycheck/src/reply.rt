@@ -39,7 +39,7 @@ pub fn reply(
         nodes: &terms[..count],
     };
     let records = type_term(&term, types, numbers)?;
-    match show(&types[0..records], out) {
+    match show(&types[..records], out) {
         Ok(length) => Ok(length),
         Err(ShowFault::TooLong) => Err(LineFault::TooLong),
         // The list of a type is lawful.

@@ -1,15 +1,10 @@
-use Rattle.std.proofs.Common.{rules, ℕ, false, replicate, sym, refl, ap, ◌∙◌, subst}
-use Rattle.term.specs.Terms.{zero_node as no_term_node}
-use Rattle.types.specs.Lists.{zero_node as no_type_node}
+use Rattle.std.proofs.Common.{rules, refl}
 use Rattle.std.proofs.lemmas.Result.{err_from_is_err_and}
 use Rattle.table.specs.View.{view}
 use Rattle.book.specs.Faults.{says}
-use Rattle.ledger.specs.Calls.{submit, opened}
-use Rattle.book.specs.declared.ticket.Ticket.{Ticket}
-use Rattle.book.specs.History.{Link}
-use Rattle.book.specs.Memories.{submission, unread}
+use Rattle.book.specs.Memories.{submission}
 use Rattle.book.proofs.Judgements.{not_begun}
-use Rattle.book.proofs.Submits.{submit_refused, zeroed, unchanged}
+use Rattle.book.proofs.Submits.{submit_refused, unchanged}
 use Rattle.book.proofs.Whole.{deals, does}
 use Rattle.book.proofs.book.Book.submit.Goals as goal
 
