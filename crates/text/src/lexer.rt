@@ -58,6 +58,7 @@ impl<'a> Lexer<'a> {
         self.run(from, |class| class.is_in_name())
     }
 
+    // The next three ask for a byte at `at`: a type for such a place would have to hold the text too, and be no plainer.
     // The name that begins at `at`.
     fn name_at(&self, at: usize) -> Result<Lexeme<'a>, TextFault>
         requires { (at < length self.now.text.now) × (in_name (class_of (slice_index self.now.text.now at)) ≡ true) }
