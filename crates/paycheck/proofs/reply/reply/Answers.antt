@@ -20,7 +20,7 @@ returns-in_err-records c =
 
 pub unreachable-requires : goal.unreachable-requires
 unreachable-requires c =
-    let m = shown_for (take c.in_ok-records.records c.type_term-typed.new.types) c.args.out.now c.show.new.out _ Unlawful c.in-Err-Unlawful.field-0-is c.in-Err-Unlawful.ensures in
+    let m = shown_for (take c.in_ok-records.records c.type_term.new.types) c.args.out.now c.show.new.out _ Unlawful c.in-Err-Unlawful.field-0-is c.in-Err-Unlawful.ensures in
     m.unlawful (lawful_front _ _ _ c.in_ok-count.ensures _ _ _ c.in_ok-records.ensures.answer)
 
 pub returns-in-Ok : goal.returns-in-Ok
@@ -28,5 +28,5 @@ returns-in-Ok c = types_line _ _ _ c.in_ok-count.ensures _ _ _ c.in_ok-records.e
 
 pub returns-in-Err-TooLong : goal.returns-in-Err-TooLong
 returns-in-Err-TooLong c =
-    let o = shown_for (take c.in_ok-records.records c.type_term-typed.new.types) c.args.out.now c.show.new.out _ TooLong c.in-Err-TooLong.field-0-is c.in-Err-TooLong.ensures in
+    let o = shown_for (take c.in_ok-records.records c.type_term.new.types) c.args.out.now c.show.new.out _ TooLong c.in-Err-TooLong.field-0-is c.in-Err-TooLong.ensures in
     (too_long_line _ _ _ c.in_ok-count.ensures _ _ _ c.in_ok-records.ensures.answer _ _ _ _ _ c.if-line-gt-LONGEST_TEXT.false o, o.leaves)
