@@ -15,10 +15,10 @@ use Rattle.walk.specs.declared.walking.Mark.{Mark}
 use Rattle.walk.specs.declared.walking.Mark.TheVariants.{New, Open, Done}
 
 -- a mark, as a number
-abbrev pub number_of : Mark → ℕ
-number_of New = 0
-number_of Open = 1
-number_of (Done p) = p + 2
+abbrev pub written_as : Mark → ℕ
+written_as New = 0
+written_as Open = 1
+written_as (Done p) = p + 2
 
 -- marks, by graph node: 0 not entered, 1 open, p + 2 done at the place p; origins, by place: the graph node that first
 -- made this part; heads and nexts: the table of the parts; and how many places there are

@@ -5,7 +5,7 @@ ghost use Rattle.graph.specs.Graph.{alive};
 ghost use Rattle.graph.specs.declared.Node.TheVariants.{Var};
 ghost use Rattle.walk.specs.Reads.{root, Flat};
 ghost use Rattle.walk.specs.Table.{bucket};
-ghost use Rattle.walk.specs.Work.{number_of, key_of, part, Marked, Origin, State, Complete, Closed, Outcome};
+ghost use Rattle.walk.specs.Work.{written_as, key_of, part, Marked, Origin, State, Complete, Closed, Outcome};
 ghost use Rattle.walk.specs.Listing.{Shut, Roots, Rest};
 ghost use Rattle.walk.specs.Lent.{nodes, held, SameMemories, Running};
 
@@ -23,7 +23,7 @@ pub enum Mark {
 
 // A mark as the lent memory holds it.
 impl From<Mark> for u32 {
-    ghost from_gives = { λ mark number. number ≡ number_of mark };
+    ghost from_gives = { λ mark number. number ≡ written_as mark };
 
     fn from(mark: Mark) -> u32 {
         match mark {
@@ -81,7 +81,7 @@ impl<'a> Walk<'a> {
     fn mark(&self, i: u16) -> Mark
         requires inside { i < length self.now.marks.now }
         requires few { slice_index self.now.marks.now i < 65538 }
-        ensures { number_of result ≡ slice_index self.now.marks.now i }
+        ensures { written_as result ≡ slice_index self.now.marks.now i }
     {
         match self.marks[i as usize] {
             0 => Mark::New,
