@@ -23,7 +23,6 @@ pub fn type_of<C: Catalogue>(catalogue: &C, k: u16, out: &mut [u8]) -> Option<us
     let mut memory = [TypeNode::default(); MOST_NODES];
     let entries = Entries { catalogue };
     let count = load(&entries, k, &mut memory);
-    let Entries { catalogue: _ } = entries;
     show(&memory[..count], out).ok()
 }
 

@@ -4,8 +4,7 @@
 ghost use Rattle.formulas.specs.Worked.{WorkedFormulas};
 
 // What the nodes, the needs and the types of eight formulas are.
-pub fn worked_formulas_stand() -> u8
+pub fn worked_formulas_stand()
     ensures { WorkedFormulas }
 {
-    0
 }

@@ -22,7 +22,7 @@ pub enum Node {
 }
 
 // The kind of a record that is a link.
-pub const LINK: u8 = 255;
+const LINK: u8 = 255;
 
 // What a record says.
 impl From<TypeNode> for Node {
@@ -36,13 +36,6 @@ impl From<TypeNode> for Node {
             _ => Node::Branch(record.kind, record.left, record.right),
         }
     }
-}
-
-// The same, by a name.
-pub fn look(record: TypeNode) -> Node
-    ensures { result ≡ view «record» }
-{
-    Node::from(record)
 }
 
 // The record that says it. A branch whose kind is another node's is read as that one.

@@ -91,7 +91,7 @@ fn self_arrow_loops() -> bool
         &mut nexts,
     ) {
         Ok(_) => false,
-        Err(Looped::Loop) => true,
+        Err(Looped) => true,
     }
 }
 

@@ -5,7 +5,7 @@ ghost use Rattle.normal.specs.Laws.{NormalOnce, NormalLawful, NormalMeans, Norma
 ghost use Rattle.normal.specs.Laws.{RenamingKeepsList, MutualRenames, OneListIffMutual, OneListRenames};
 
 // What a normal list is and says.
-pub fn normal_lists_stand() -> u8
+pub fn normal_lists_stand()
     ensures once { NormalOnce }
     ensures lawful { NormalLawful }
     ensures means { NormalMeans }
@@ -14,15 +14,13 @@ pub fn normal_lists_stand() -> u8
     ensures places { PlacesAreTypes }
     ensures example { Example }
 {
-    0
 }
 
 // When types have one normal list.
-pub fn renamings_stand() -> u8
+pub fn renamings_stand()
     ensures renamed { RenamingKeepsList }
     ensures only { MutualRenames }
     ensures alike { OneListIffMutual }
     ensures together { OneListRenames }
 {
-    0
 }

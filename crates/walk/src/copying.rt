@@ -5,6 +5,7 @@ ghost use Rattle.graph.specs.Graph.{view};
 ghost use Rattle.walk.specs.Copies.{Copy, ByRecord};
 
 use crate::places;
+use graph::Node;
 use types::TypeNode;
 
 // The latest of the first `count` places of the list that has the record `x`.
@@ -29,11 +30,7 @@ fn copy_at(list: &[TypeNode], heads: &[u32], nexts: &[u32], place: usize) -> Typ
 {
     let x = list[place];
     match find_equal(list, heads, nexts, place, x) {
-        Some(equal) => TypeNode {
-            kind: graph::LINK,
-            left: equal,
-            right: 0,
-        },
+        Some(equal) => TypeNode::from(Node::Link(equal)),
         None => x,
     }
 }

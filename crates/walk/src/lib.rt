@@ -18,10 +18,8 @@ mod places;
 mod walking;
 
 // No types solve the graph: a class would be a part of itself.
-#[derive(Clone, Copy, Debug, PartialEq)]
-pub enum Looped {
-    Loop,
-}
+#[derive(Clone, Copy, Debug, PartialEq, Eq)]
+pub struct Looped;
 
 // Lets a link at `i` go where the link goes that it leads to.
 fn straighten(graph: &mut [TypeNode], i: usize)
@@ -32,9 +30,9 @@ fn straighten(graph: &mut [TypeNode], i: usize)
     ensures straight { (k : ℕ) → k < i + 1 → Straight (map view graph.new) k }
     ensures simple { SimpleGraph (map view graph.old) → SimpleGraph (map view graph.new) }
 {
-    if let Node::Link(next) = graph::look(graph[i]) {
+    if let Node::Link(next) = Node::from(graph[i]) {
         let there = graph[next as usize];
-        if let Node::Link(_) = graph::look(there) {
+        if let Node::Link(_) = Node::from(there) {
             graph[i] = there;
         }
     }
@@ -54,7 +52,7 @@ fn flatten(graph: &mut [TypeNode])
 }
 
 // Why a list was not brought to its normal form: it means no type, or a memory is shorter than it.
-#[derive(Clone, Copy, Debug, PartialEq)]
+#[derive(Clone, Copy, Debug, PartialEq, Eq)]
 pub enum Refused {
     Unlawful,
     ShortMemory,
@@ -96,10 +94,9 @@ fn walk_all(
 }
 
 // The list that is found does not hang on the solution that is taken.
-pub fn one_list_stands() -> u8
+pub fn one_list_stands()
     ensures { OneList }
 {
-    0
 }
 
 // Puts the normal list of the types of the roots in place of the graph that stands in the first `used` records of the
@@ -138,9 +135,9 @@ pub fn list_types(
             rest.fill(TypeNode::default());
             Ok(count)
         }
-        Err(Looped::Loop) => {
+        Err(Looped) => {
             memory.fill(TypeNode::default());
-            Err(Looped::Loop)
+            Err(Looped)
         }
     }
 }
@@ -164,7 +161,7 @@ fn normalize_lawful(
     let mut roots = [used as u32 - 1];
     match list_types(memory, used, &mut roots, marks, origins, heads, nexts) {
         Ok(count) => count,
-        Err(Looped::Loop) => unreachable(),
+        Err(Looped) => unreachable(),
     }
 }
 

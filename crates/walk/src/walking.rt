@@ -71,7 +71,7 @@ impl<'a> Walk<'a> {
         requires { at < length self.now.graph.now }
         ensures { result ≡ root (nodes self.now) at }
     {
-        match graph::look(self.graph[at as usize]) {
+        match Node::from(self.graph[at as usize]) {
             Node::Link(next) => next,
             _ => at,
         }
@@ -113,7 +113,7 @@ impl<'a> Walk<'a> {
         requires marked { (ps : List Ty) × (length ps ≤ length self.now.graph.now) × Marked (nodes self.now) self.now.marks.now ps }
         ensures { (ps : List Ty) → Marked (nodes self.now) self.now.marks.now ps → result ≡ key_of ps (part ps (slice_index self.now.marks.now i - 2)) }
     {
-        match graph::look(self.graph[i as usize]) {
+        match Node::from(self.graph[i as usize]) {
             Node::Var => TypeNode::variable(i),
             Node::Base(c) => TypeNode::base(c),
             Node::Branch(kind, l, r) => TypeNode {
@@ -197,11 +197,11 @@ impl<'a> Walk<'a> {
         let i = self.root(at);
         match self.mark(i) {
             Mark::New => (),
-            Mark::Open => return Err(Looped::Loop),
+            Mark::Open => return Err(Looped),
             Mark::Done(place) => return Ok(place),
         }
         self.marks[i as usize] = u32::from(Mark::Open);
-        match graph::look(self.graph[i as usize]) {
+        match Node::from(self.graph[i as usize]) {
             Node::Var => Ok(self.close(i, TypeNode::variable(i))),
             Node::Base(c) => Ok(self.close(i, TypeNode::base(c))),
             Node::Branch(kind, l, r) => {

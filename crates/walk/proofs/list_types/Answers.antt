@@ -16,8 +16,8 @@ returns-in-Ok c =
     c.flatten.ensures.kept (n ∙ c.flatten.auto.graph ∙ sym (length-map (take c.args.used c.args.memory.now) view)) c.flatten.ensures.simple
     c.in-Ok.ensures (omega (arith, c.in-Ok.ensures.within)) (λ p h. c.write_rows.ensures p (omega (arith, c.in-Ok.ensures.within))) (rw d at f)
 
-pub returns-in-Err-Loop : goal.returns-in-Err-Loop
-returns-in-Err-Loop c =
-    let d : c.default-in-Err-Loop.result ≡ zero_node = search rules in
-    let f : c.fill-in-Err-Loop.new.self ≡ replicate _ c.default-in-Err-Loop.result = c.fill-in-Err-Loop.ensures.after (λ y h. search rules) in
-    (λ v s. c.in-Err-Loop.ensures v (c.flatten.ensures.kept.onto v s tt).0, cleared _ _ (rw d at f))
+pub returns-in-Err : goal.returns-in-Err
+returns-in-Err c =
+    let d : c.default-in-Err.result ≡ zero_node = search rules in
+    let f : c.fill-in-Err.new.self ≡ replicate _ c.default-in-Err.result = c.fill-in-Err.ensures.after (λ y h. search rules) in
+    (λ v s. c.in-Err.ensures v (c.flatten.ensures.kept.onto v s tt).0, cleared _ _ (rw d at f))
