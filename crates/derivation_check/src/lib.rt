@@ -25,10 +25,7 @@ mod steps;
 const NOTED: usize = 1024;
 
 // The first node without its typing step.
-fn judge<'a, E: Source, K: Source>(
-    term: &Term<'a, E, K>,
-    types: NodeTypes<'a>,
-) -> Option<usize>
+fn judge<'a, E: Source, K: Source>(term: &Term<'a, E, K>, types: NodeTypes<'a>) -> Option<usize>
     requires { length types.places.now ≡ length term.now.nodes.now }
     ensures { Judged (E.Source.list term.now.entries.now) (K.Source.list term.now.kept.now) term.now.nodes.now (type_of types.entry) result }
 {

@@ -6,8 +6,8 @@ ghost use Rattle.types.proofs.Tested.{passed_lawful};
 use super::*;
 use copy::nothing::Nothing;
 use refusal::{Layer, Refusal};
-use term::TermNode;
 use term::Symbol::{Abstraction, Application, Primitive, Reference, Variable};
+use term::TermNode;
 
 // Every list is that of the base with the code 0.
 struct Bases;

@@ -6,5 +6,4 @@ ghost use Rattle.formulas.specs.Worked.{WorkedFormulas};
 // What the nodes, the needs and the types of eight formulas are.
 pub fn worked_formulas_stand()
     ensures { WorkedFormulas }
-{
-}
+{}

@@ -164,7 +164,10 @@ impl<E: Source, K: Source> Term<'_, E, K> {
         requires few { length self.now.nodes.now ≤ 65536 }
         ensures { result ≡ need (E.Source.list self.now.entries.now) (K.Source.list self.now.kept.now) self.now.nodes.now }
     {
-        self.nodes.iter().map(|node| self.need_of(*node) as usize).sum()
+        self.nodes
+            .iter()
+            .map(|node| self.need_of(*node) as usize)
+            .sum()
     }
 
     // Builds the graph of the term, if it is closed, from the start of the memory, and records the graph node of each of

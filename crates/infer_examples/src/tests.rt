@@ -1,4 +1,6 @@
 // Small terms, run: what is recorded, and which nodes are refused.
+ghost use Rattle.std.specs.Prelude.{◌≡◌};
+
 use copy::nothing::Nothing;
 use infer::Term;
 use term::{Symbol, TermNode};
@@ -11,7 +13,9 @@ const APPLY: Symbol = Symbol::Application;
 const INNERMOST: Symbol = Symbol::Variable(0);
 
 // A term that asks for no lists.
-fn alone(nodes: &[TermNode]) -> Term<'_, Nothing, Nothing> {
+fn alone(nodes: &[TermNode]) -> Term<'_, Nothing, Nothing>
+    ensures { result.nodes.now ≡ nodes.now }
+{
     Term {
         entries: &Nothing,
         kept: &Nothing,

@@ -8,5 +8,4 @@ ghost use Rattle.ledger.specs.Fed.{LedgersAreRight, LedgerIsOne};
 pub fn ledgers_stand()
     ensures right { LedgersAreRight }
     ensures one { LedgerIsOne }
-{
-}
+{}

@@ -13,8 +13,7 @@ pub fn normal_lists_stand()
     ensures again { NormalAgain }
     ensures places { PlacesAreTypes }
     ensures example { Example }
-{
-}
+{}
 
 // When types have one normal list.
 pub fn renamings_stand()
@@ -22,5 +21,4 @@ pub fn renamings_stand()
     ensures only { MutualRenames }
     ensures alike { OneListIffMutual }
     ensures together { OneListRenames }
-{
-}
+{}

@@ -10,5 +10,4 @@ pub fn readings_stand()
     ensures either { RefusedOrRead }
     ensures closed { FormulaIsClosed }
     ensures below { ReferencesAreBelow }
-{
-}
+{}

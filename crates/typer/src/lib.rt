@@ -24,8 +24,7 @@ pub mod question;
 pub fn one_answer_stands()
     ensures types { OneTypeList }
     ensures typings { OneTypingList }
-{
-}
+{}
 
 // The work on a term that needs `records` records, in memories that serve: the types of its first nodes are listed in the
 // type memory, with zero nodes behind the list, and where they stand in the places. The numbers are zeros then, and where
@@ -83,12 +82,7 @@ pub fn derive<E: Source, K: Source>(
     ensures held { IfOk result (λ _. Holds (need (E.Source.list term.now.entries.now) (K.Source.list term.now.kept.now) term.now.nodes.now) (length term.now.nodes.now) (length types.old) (length places.old) (length numbers.old)) }
     ensures nodes { IfOk result (λ n. DerivedNodes (E.Source.list term.now.entries.now) (K.Source.list term.now.kept.now) term.now.nodes.now types.new places.new numbers.new n) }
 {
-    let records = ask_derivation(
-        term,
-        types.len(),
-        places.len(),
-        numbers.len(),
-    )?;
+    let records = ask_derivation(term, types.len(), places.len(), numbers.len())?;
     let (own, rest) = places.split_at_mut(term.nodes.len());
     rest.fill(0);
     work(term, records, types, own, numbers).ok_or(DeriveFault::NoType)

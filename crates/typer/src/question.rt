@@ -33,10 +33,7 @@ pub fn few_records<E: Source, K: Source>(term: &Term<E, K>) -> Option<usize>
 }
 
 // How many records a term needs, if a type memory of `types` records has as many.
-fn ask_records<E: Source, K: Source>(
-    term: &Term<E, K>,
-    types: usize,
-) -> Result<usize, TypesFault>
+fn ask_records<E: Source, K: Source>(term: &Term<E, K>, types: usize) -> Result<usize, TypesFault>
     ensures { MatchResult result (λ n. (n ≡ need (E.Source.list term.now.entries.now) (K.Source.list term.now.kept.now) term.now.nodes.now) × Fits (need (E.Source.list term.now.entries.now) (K.Source.list term.now.kept.now) term.now.nodes.now) types) (λ f. NotFits (need (E.Source.list term.now.entries.now) (K.Source.list term.now.kept.now) term.now.nodes.now) types f) }
 {
     let records = few_records(term).ok_or(TypesFault::TooMuch)?;

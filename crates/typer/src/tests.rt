@@ -1,8 +1,8 @@
 // Small terms, typed and derived: what the memories hold then, and which terms have no type.
 use super::*;
 use copy::nothing::Nothing;
-use term::TermNode;
 use term::Symbol::{self, Abstraction, Application, Variable};
+use term::TermNode;
 
 // What the memories held before.
 const HELD: TypeNode = TypeNode {
@@ -47,10 +47,7 @@ fn identity_in_32_numbers(rt: HostRuntime) {
         Err(TypesFault::NoNumberRoom)
     );
     assert_eq!(rt; short[30], 7);
-    assert_eq!(rt;
-        type_term(&alone(&terms), &mut types, &mut numbers),
-        Ok(2)
-    );
+    assert_eq!(rt; type_term(&alone(&terms), &mut types, &mut numbers), Ok(2));
     assert_eq!(rt;
         types,
         [
@@ -117,12 +114,7 @@ fn composition_is_derived(rt: HostRuntime) {
     let terms = nodes(symbols);
     assert_eq!(rt; reply(symbols), Ok(8));
     assert_eq!(rt;
-        derive(
-            &alone(&terms),
-            &mut types,
-            &mut places,
-            &mut numbers,
-        ),
+        derive(&alone(&terms), &mut types, &mut places, &mut numbers,),
         Ok(8)
     );
     assert_eq!(rt; places, [7, 6, 5, 1, 2, 0, 4, 3, 0]);
@@ -138,21 +130,11 @@ fn places_are_asked_before_numbers(rt: HostRuntime) {
     let mut numbers = [7u32; 31];
     let terms = nodes([Abstraction, Variable(0)]);
     assert_eq!(rt;
-        derive(
-            &alone(&terms),
-            &mut types,
-            &mut short,
-            &mut numbers,
-        ),
+        derive(&alone(&terms), &mut types, &mut short, &mut numbers,),
         Err(DeriveFault::NoPlaceRoom)
     );
     assert_eq!(rt;
-        derive(
-            &alone(&terms),
-            &mut types,
-            &mut places,
-            &mut numbers,
-        ),
+        derive(&alone(&terms), &mut types, &mut places, &mut numbers,),
         Err(DeriveFault::NoNumberRoom)
     );
 }

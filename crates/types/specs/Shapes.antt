@@ -1,5 +1,5 @@
 -- What the records of type nodes say, by their kinds.
-use Rattle.std.specs.Prelude.{◌≡◌, ℕ, zero, suc, Option, Some, None}
+use Rattle.std.specs.Prelude.{ℕ, zero, suc, Option, Some, None}
 use Rattle.types.specs.declared.TypeNode.{TypeNode}
 use Rattle.types.specs.declared.Shape.{Shape}
 use Rattle.types.specs.declared.Shape.TheVariants.{Variable, Base, Arrow}

@@ -96,8 +96,7 @@ fn walk_all(
 // The list that is found does not hang on the solution that is taken.
 pub fn one_list_stands()
     ensures { OneList }
-{
-}
+{}
 
 // Puts the normal list of the types of the roots in place of the graph that stands in the first `used` records of the
 // memory, with zero nodes behind it, and in place of each root where its type stands in the list; says how many records
