@@ -118,6 +118,7 @@ pub fn keep_book<C: Catalogue>(
 {
     let mut book = Book::new(catalogue);
     let answered = front(dealings, answers.len());
+    // Answers are written by their numbers: what is written through zipped iterators is not known afterwards.
     'dealings: for (i, dealing) in answered.iter().enumerate() {
         answers[i] = book.carry_out(*dealing, texts, terms, types, numbers, places, out);
     }

@@ -41,6 +41,7 @@ impl<'a> Catalogue for FileCatalogue<'a> {
         self.laid.headed.sized.count() as u16
     }
 
+    // As the built-in catalogue does: of the names of entries the interface says nothing.
     fn find(&self, name: &[u8]) -> Option<u16> {
         (0..self.count()).find(|k| same_name(self.name(*k), name))
     }

@@ -141,6 +141,7 @@ pub fn copy<S: Source>(source: &S, k: u16, seen: &mut [u32], graph: &mut Graph) 
         return None;
     }
     let by = graph.used as u16;
+    // A source is asked for each node by its number.
     for i in 0..n {
         graph.push(list.fresh(i, by, seen));
     }

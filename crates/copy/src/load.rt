@@ -11,6 +11,7 @@ pub fn load<S: Source>(source: &S, k: u16, memory: &mut [TypeNode]) -> usize
     ensures few { result ≤ 4096 }
     ensures same { take result memory.new ≡ S.list source.now k }
 {
+    // A source is asked for each node by its number.
     let count = source.nodes(k);
     for i in 0..count {
         memory[i as usize] = source.node(k, i);

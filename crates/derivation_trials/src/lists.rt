@@ -3,31 +3,31 @@ use book::book::Book;
 use book_desk::telling::tell_passed;
 use catalogue::interface::Catalogue;
 use std::io;
-use types::TypeNode;
+use types::{ARROW, BASE, TypeNode, VARIABLE};
 
 // The nodes are written out, for a constant calls no function.
 const A: TypeNode = TypeNode {
-    kind: 0,
+    kind: VARIABLE,
     left: 0,
     right: 0,
 };
 
 const HOURS: TypeNode = TypeNode {
-    kind: 1,
+    kind: BASE,
     left: 0,
     right: 0,
 };
 
 // The arrow from the list's first node to itself.
 const FROM_FIRST: TypeNode = TypeNode {
-    kind: 2,
+    kind: ARROW,
     left: 0,
     right: 0,
 };
 
 // An arrow that may not stand at place 1.
 const TO_ITSELF: TypeNode = TypeNode {
-    kind: 2,
+    kind: ARROW,
     left: 0,
     right: 1,
 };

@@ -13,7 +13,7 @@ use graph::Graph;
 use term::{Symbol, TermNode};
 use types::TypeNode;
 
-// The binders around a place of the term: the graph nodes of the first `depth`, the innermost last.
+// The binders around a place of the term: the graph nodes of the first `depth`, the innermost last, in a lent memory.
 #[derive(Drop)]
 struct Scope<'a> {
     binders: &'a mut [u32],

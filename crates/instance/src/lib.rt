@@ -51,6 +51,7 @@ pub fn fits(general: &[TypeNode], special: &[TypeNode], place: u16) -> bool
     ensures { Decides result (Instance (meaning general.now) (type_at special.now place)) }
 {
     let mut matching = Matching::new(general, special, place);
+    // A step changes the tables, and a closure that does is not for `all`.
     for at in (0..general.len()).rev() {
         if !matching.step(at) {
             return false;

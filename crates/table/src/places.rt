@@ -33,7 +33,7 @@ impl Table {
         self.rows().last().copied()
     }
 
-    // The nodes that the terms of all rows have together.
+    // The nodes that the terms of all rows have together. The two columns differ in the field that is read.
     pub fn used_terms(&self) -> u16
         ensures nodes { result ≡ term_nodes (view self.now) }
         ensures within { result ≤ 4096 }

@@ -31,7 +31,8 @@ impl Table {
         self.place(k).is_some()
     }
 
-    // The term of row `k`, without nodes where there is no row.
+    // The term of row `k`, without nodes where there is no row. A row has two columns, of two types of nodes: so there are
+    // two calls.
     pub fn term(&self, k: u16) -> &[TermNode]
         ensures { result.now ≡ (kept_row (view self.now) k).term }
     {

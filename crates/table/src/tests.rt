@@ -5,6 +5,7 @@ use copy::Source;
 use term::TermNode;
 use types::TypeNode;
 
+// The nodes are written out, for a constant calls no function.
 const IDENTITY: [TermNode; 2] = [
     TermNode { kind: 1, number: 0 },
     TermNode { kind: 0, number: 0 },

@@ -13,6 +13,17 @@ pub struct TermNode {
     pub number: u16,
 }
 
+// The kinds, as they stand in the records.
+const VARIABLE: u8 = 0;
+
+const ABSTRACTION: u8 = 1;
+
+const APPLICATION: u8 = 2;
+
+const PRIMITIVE: u8 = 3;
+
+const REFERENCE: u8 = 4;
+
 // What a term node says.
 #[derive(Clone, Copy, Debug, PartialEq, Eq)]
 pub enum Symbol {
@@ -28,11 +39,26 @@ impl From<Symbol> for TermNode {
 
     fn from(symbol: Symbol) -> TermNode {
         match symbol {
-            Symbol::Variable(number) => TermNode { kind: 0, number },
-            Symbol::Abstraction => TermNode { kind: 1, number: 0 },
-            Symbol::Application => TermNode { kind: 2, number: 0 },
-            Symbol::Primitive(number) => TermNode { kind: 3, number },
-            Symbol::Reference(number) => TermNode { kind: 4, number },
+            Symbol::Variable(number) => TermNode {
+                kind: VARIABLE,
+                number,
+            },
+            Symbol::Abstraction => TermNode {
+                kind: ABSTRACTION,
+                number: 0,
+            },
+            Symbol::Application => TermNode {
+                kind: APPLICATION,
+                number: 0,
+            },
+            Symbol::Primitive(number) => TermNode {
+                kind: PRIMITIVE,
+                number,
+            },
+            Symbol::Reference(number) => TermNode {
+                kind: REFERENCE,
+                number,
+            },
         }
     }
 }
@@ -43,11 +69,11 @@ impl TermNode {
         ensures { result ≡ symbol_of self }
     {
         match self.kind {
-            0 => Some(Symbol::Variable(self.number)),
-            1 => Some(Symbol::Abstraction),
-            2 => Some(Symbol::Application),
-            3 => Some(Symbol::Primitive(self.number)),
-            4 => Some(Symbol::Reference(self.number)),
+            VARIABLE => Some(Symbol::Variable(self.number)),
+            ABSTRACTION => Some(Symbol::Abstraction),
+            APPLICATION => Some(Symbol::Application),
+            PRIMITIVE => Some(Symbol::Primitive(self.number)),
+            REFERENCE => Some(Symbol::Reference(self.number)),
             _ => None,
         }
     }

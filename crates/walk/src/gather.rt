@@ -10,7 +10,7 @@ ghost use Rattle.walk.specs.Lent.{nodes, held, SameMemories, Running};
 use crate::walking::Walk;
 use types::{TypeNode, VARIABLE};
 
-// The number in a part's record: a variable has the next number, any other part what its key says.
+// The number in a part's record: a variable has the next number, any other part, of whatever kind, what its key says.
 fn number_of(key: TypeNode, variables: &mut u32) -> u32
     requires { variables.old < 65536 }
     ensures value { result ≡ (if nat_eq key.kind 0 then variables.old else key.left) }

@@ -229,7 +229,7 @@ impl<'a> Walk<'a> {
         Ok(self.count)
     }
 
-    // Lists the types of all nodes, behind what is listed.
+    // Lists the types of all nodes, behind what is listed. The walk takes a node by its number.
     pub fn list_rest(&mut self) -> Result<(), Looped>
         requires running { Running self.old }
         requires shut { Shut self.old.marks.now }
