@@ -30,7 +30,7 @@ fn load(rt: &HostRuntime) -> anyhow::Result<Vec<u8>> {
 
 // Entry k: its name and its type.
 fn say(rt: &HostRuntime, catalogue: FileCatalogue<'_>, k: u16) -> io::Result<()> {
-    let mut out = [0; 4096];
+    let mut out = [0; printing::MOST_BYTES];
     let text = match type_of(&catalogue, k, &mut out) {
         Some(length) => &out[..length],
         None => b"too long",

@@ -4,7 +4,7 @@
 ghost use Rattle.std.specs.Prelude.{◌≡◌, true};
 
 use std::{fmt, io};
-use types::{MOST_NODES, TypeNode};
+use types::{BASE, MOST_NODES, TypeNode};
 use walk::{Looped, Refused};
 
 // A list of the greatest length, and numbers to work with.
@@ -97,7 +97,7 @@ fn self_arrow_loops() -> bool
 
 fn main(rt: HostRuntime) -> io::Result<()> {
     let mut memory = [TypeNode {
-        kind: 1,
+        kind: BASE,
         left: 9,
         right: 9,
     }; MOST_NODES];

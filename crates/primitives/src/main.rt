@@ -9,6 +9,7 @@ ghost use Rattle.primitives.specs.Types.{RowsAreNormal};
 use catalogue::builtin::Builtin;
 use catalogue::interface::Catalogue;
 use entry_types::{type_of, write_entry};
+use printing::MOST_BYTES;
 use std::io;
 
 // How many primitives there are. Each row of the table is the normal list of its type.
@@ -28,7 +29,7 @@ fn type_of_primitive(k: u16, out: &mut [u8]) -> Option<usize>
 
 // One primitive: its name and its type.
 fn say(rt: &HostRuntime, k: u16) -> io::Result<()> {
-    let mut out = [0; 4096];
+    let mut out = [0; MOST_BYTES];
     match type_of_primitive(k, &mut out) {
         Some(length) => write_entry(&mut rt.stdout(), Builtin.name(k), &out[..length]),
         None => Ok(()),

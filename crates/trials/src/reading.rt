@@ -2,6 +2,7 @@
 use catalogue::builtin::Builtin;
 use formula::reader::read;
 use refusal::Refusal;
+use term::Symbol::{self, Abstraction, Application, Primitive, Reference, Variable};
 use term::TermNode;
 
 // A memory that is not clear.
@@ -9,8 +10,13 @@ fn scribbled() -> [TermNode; 12] {
     [TermNode { kind: 9, number: 9 }; 12]
 }
 
-fn node(kind: u8, number: u16) -> TermNode {
-    TermNode { kind, number }
+// The nodes of a term, and zeros behind them.
+fn written<const N: usize>(symbols: [Symbol; N]) -> [TermNode; 12] {
+    let mut memory = [TermNode::default(); 12];
+    for (node, symbol) in memory.iter_mut().zip(symbols.iter()) {
+        *node = TermNode::from(*symbol);
+    }
+    memory
 }
 
 // Reads a text while three formulas are filed.
@@ -25,21 +31,16 @@ fn outcome(text: &[u8], memory: &mut [TermNode]) -> Result<usize, (u16, usize)> 
 fn composition(rt: HostRuntime) {
     let mut memory = scribbled();
     assert_eq!(rt; outcome(b"\\f.\\g.\\x.f (g x)", &mut memory), Ok(8));
-    let zero = node(0, 0);
-    let term = [
-        node(1, 0),
-        node(1, 0),
-        node(1, 0),
-        node(2, 0),
-        node(0, 2),
-        node(2, 0),
-        node(0, 1),
-        zero,
-        zero,
-        zero,
-        zero,
-        zero,
-    ];
+    let term = written([
+        Abstraction,
+        Abstraction,
+        Abstraction,
+        Application,
+        Variable(2),
+        Application,
+        Variable(1),
+        Variable(0),
+    ]);
     assert_eq!(rt; memory, term);
 }
 
@@ -50,27 +51,22 @@ fn grouped_to_the_left(rt: HostRuntime) {
         outcome(b"choose #2 (\\net_of.net_of) net_of", &mut memory),
         Ok(8)
     );
-    let zero = node(0, 0);
-    let term = [
-        node(2, 0),
-        node(2, 0),
-        node(2, 0),
-        node(3, 5),
-        node(4, 2),
-        node(1, 0),
-        zero,
-        node(3, 2),
-        zero,
-        zero,
-        zero,
-        zero,
-    ];
+    let term = written([
+        Application,
+        Application,
+        Application,
+        Primitive(5),
+        Reference(2),
+        Abstraction,
+        Variable(0),
+        Primitive(2),
+    ]);
     assert_eq!(rt; memory, term);
 }
 
 #[test]
 fn refusals_leave_zeros(rt: HostRuntime) {
-    let zeros = [node(0, 0); 12];
+    let zeros = [TermNode::default(); 12];
     let mut memory = scribbled();
     assert_eq!(rt; outcome(b"x %", &mut memory), Err((20, 2)));
     assert_eq!(rt; memory, zeros);
@@ -92,6 +88,6 @@ fn refusals_leave_zeros(rt: HostRuntime) {
 fn room_to_the_last_record(rt: HostRuntime) {
     let mut memory = scribbled();
     assert_eq!(rt; outcome(b"\\x.x x x x x x", &mut memory), Ok(12));
-    let mut none = [node(0, 0); 0];
+    let mut none = [TermNode::default(); 0];
     assert_eq!(rt; outcome(b"std_hours", &mut none), Err((23, 0)));
 }
