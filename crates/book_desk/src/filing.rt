@@ -2,6 +2,7 @@
 ghost use Rattle.std.specs.Prelude.{◌≡◌};
 ghost use Rattle.ledger.specs.Calls.{submit as to_submit, file as to_file, dismiss as to_dismiss, filed as is_filed, dismissed as is_dismissed};
 ghost use Rattle.book.specs.History.{Does};
+ghost use Rattle.book.specs.Memories.{untouched, Leaves};
 ghost use Rattle.book.specs.Replies.{reply_submit, Unspent, Opens, RefusalKeeps, has_candidate};
 ghost use Rattle.book_desk.specs.Desks.{submission_on};
 ghost use Rattle.book_desk.specs.Filing.{Ends};
@@ -13,13 +14,14 @@ use book::ticket::Ticket;
 use catalogue::interface::Catalogue;
 
 impl Desk {
-    // Submits a formula.
+    // Submits a formula, as the book does in the desk's memories.
     pub fn submit<C: Catalogue>(
         &mut self,
         book: &mut Book<C>,
         text: &[u8],
     ) -> Result<Ticket, BookFault>
         ensures done { Does C.entries book.old (to_submit (submission_on self.old text.now)) (reply_submit result) book.new }
+        ensures memories { Leaves (untouched result) self.old.terms.items self.new.terms.items self.old.types.items self.new.types.items self.old.numbers.items self.new.numbers.items }
         ensures ticket { Unspent result }
         ensures kept { RefusalKeeps result book.old book.new }
         ensures candidate { Opens (has_candidate book.new) result }
