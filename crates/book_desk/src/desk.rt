@@ -1,6 +1,6 @@
 // The memories that trials work in.
-ghost use Rattle.std.specs.Prelude.{Some};
-ghost use Rattle.book_desk.specs.Desks.{word};
+ghost use Rattle.std.specs.Prelude.{◌≡◌, Some};
+ghost use Rattle.book_desk.specs.Desks.{word as word_of};
 
 use std::fmt;
 use term::TermNode;
@@ -36,15 +36,23 @@ pub enum Left {
     Mixed,
 }
 
-// A word for what was left.
+impl Left {
+    // A word for what was left.
+    pub fn word(&self) -> &'static str
+        ensures { result.now ≡ word_of self.now }
+    {
+        match *self {
+            Left::Kept => "kept",
+            Left::Zeros => "zeros",
+            Left::Mixed => "mixed",
+        }
+    }
+}
+
 impl fmt::Display for Left {
-    ghost output = { λ l. Some (word l) };
+    ghost output = { λ l. Some (word_of l) };
 
     fn fmt<W: fmt::Write>(&self, f: &mut fmt::Formatter<W>) -> fmt::Result {
-        match self {
-            Left::Kept => f.write_str("kept"),
-            Left::Zeros => f.write_str("zeros"),
-            Left::Mixed => f.write_str("mixed"),
-        }
+        f.write_str(self.word())
     }
 }

@@ -1,8 +1,8 @@
-// Formulas that are submitted in the memories of a desk, and at once filed or dismissed.
+// Formulas that are submitted, and at once filed or dismissed: in any memories, and in those of a desk.
 ghost use Rattle.std.specs.Prelude.{◌≡◌};
 ghost use Rattle.ledger.specs.Calls.{submit as to_submit, file as to_file, dismiss as to_dismiss, filed as is_filed, dismissed as is_dismissed};
 ghost use Rattle.book.specs.History.{Does};
-ghost use Rattle.book.specs.Memories.{untouched, Leaves};
+ghost use Rattle.book.specs.Memories.{submission, untouched, Leaves};
 ghost use Rattle.book.specs.Replies.{reply_submit, Unspent, Opens, RefusalKeeps, has_candidate};
 ghost use Rattle.book_desk.specs.Desks.{submission_on};
 ghost use Rattle.book_desk.specs.Filing.{Ends};
@@ -12,6 +12,42 @@ use book::book::Book;
 use book::fault::BookFault;
 use book::ticket::Ticket;
 use catalogue::interface::Catalogue;
+use term::TermNode;
+use types::TypeNode;
+
+// Submits a formula and files it, and answers its number.
+pub fn submit_and_file<C: Catalogue>(
+    book: &mut Book<C>,
+    text: &[u8],
+    terms: &mut [TermNode],
+    types: &mut [TypeNode],
+    numbers: &mut [u32],
+) -> Result<u16, BookFault>
+    ensures { Ends C.entries book.old (submission text.now terms.old types.old numbers.old) to_file (λ n. is_filed n) book.new result }
+{
+    let ticket = book.submit(text, terms, types, numbers)?;
+    match book.file(ticket) {
+        Ok(number) => Ok(number),
+        Err(_) => unreachable(),
+    }
+}
+
+// Submits a formula and dismisses it. What files and what dismisses is one call each, so there is nothing to share.
+pub fn submit_and_dismiss<C: Catalogue>(
+    book: &mut Book<C>,
+    text: &[u8],
+    terms: &mut [TermNode],
+    types: &mut [TypeNode],
+    numbers: &mut [u32],
+) -> Result<(), BookFault>
+    ensures { Ends C.entries book.old (submission text.now terms.old types.old numbers.old) to_dismiss (λ _. is_dismissed) book.new result }
+{
+    let ticket = book.submit(text, terms, types, numbers)?;
+    match book.dismiss(ticket) {
+        Ok(()) => Ok(()),
+        Err(_) => unreachable(),
+    }
+}
 
 impl Desk {
     // Submits a formula, as the book does in the desk's memories.
@@ -37,12 +73,16 @@ impl Desk {
     ) -> Result<u16, BookFault>
         ensures { Ends C.entries book.old (submission_on self.old text.now) to_file (λ n. is_filed n) book.new result }
     {
-        let ticket = self.submit(book, text)?;
-        let number = book.file(ticket).unwrap();
-        Ok(number)
+        submit_and_file(
+            book,
+            text,
+            &mut self.terms,
+            &mut self.types,
+            &mut self.numbers,
+        )
     }
 
-    // Submits a formula and dismisses it. What files and what dismisses is one call each, so there is nothing to share.
+    // Submits a formula and dismisses it.
     pub fn submit_and_dismiss<C: Catalogue>(
         &mut self,
         book: &mut Book<C>,
@@ -50,8 +90,12 @@ impl Desk {
     ) -> Result<(), BookFault>
         ensures { Ends C.entries book.old (submission_on self.old text.now) to_dismiss (λ _. is_dismissed) book.new result }
     {
-        let ticket = self.submit(book, text)?;
-        book.dismiss(ticket).unwrap();
-        Ok(())
+        submit_and_dismiss(
+            book,
+            text,
+            &mut self.terms,
+            &mut self.types,
+            &mut self.numbers,
+        )
     }
 }

@@ -58,7 +58,7 @@ impl<'a> Iterator for Cutter<'a> {
 }
 
 // The line that begins at `from`, if there is one.
-fn next_line(input: &[u8], from: usize) -> Option<Line<'_>>
+pub fn next_line(input: &[u8], from: usize) -> Option<Line<'_>>
     ensures { MatchOption result (length input.now ≤ from) (λ l. Cut input.now from l) }
 {
     if from >= input.len() {

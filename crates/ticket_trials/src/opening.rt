@@ -7,7 +7,7 @@ use book::book::Book;
 use book::ticket::Ticket;
 use book_desk::desk::Desk;
 use book_desk::fresh::on_a_new_book;
-use book_desk::opened::{refused_submit, refused_withdrawal};
+use book_desk::opened::refused_withdrawal;
 use book_desk::telling::{tell_fault, tell_length, tell_passed};
 use catalogue::builtin::Builtin;
 use catalogue::interface::Catalogue;
@@ -49,7 +49,7 @@ fn while_open<C: Catalogue>(
     requires { Open C.entries book.old }
 {
     desk.scribble();
-    let second = refused_submit(book, b"\\x.\\y.y", desk);
+    let second = desk.refused_submit(book, b"\\x.\\y.y");
     let withdrawal = refused_withdrawal(book);
     let looked = look(rt, book, ticket.number());
     let sought = look_for_derivation(rt, book, ticket.number());
