@@ -2,7 +2,7 @@
 ghost use Rattle.std.specs.Prelude.{◌≡◌, ◌<◌, ◌^◌};
 ghost use Rattle.std.specs.Result.{MatchResult};
 ghost use Rattle.catalogue_file.specs.Files.{count, offset, size};
-ghost use Rattle.catalogue_file.specs.Questions.{Headed};
+ghost use Rattle.catalogue_file.specs.Questions.{Headed, Laid};
 ghost use Rattle.catalogue_file.specs.Checking.{Refuses};
 ghost use Rattle.catalogue_file.specs.Faults.{says};
 
@@ -36,7 +36,7 @@ impl<'a> HeadedFile<'a> {
     pub fn laid(self) -> Result<LaidFile<'a>, FileFault>
         ensures { MatchResult result
             (λ file. file.headed ≡ self.entry)
-            (λ f. Refuses self.entry.sized.layout self.entry.sized.bytes.now (says f)) }
+            (λ f. (Laid self.entry.sized.layout self.entry.sized.bytes.now → ⊥) × Refuses self.entry.sized.layout self.entry.sized.bytes.now (says f)) }
     {
         // A `for`, since where an entry is due hangs on the one before it.
         let count = self.sized.count();

@@ -3,7 +3,7 @@ ghost use Rattle.std.specs.Prelude.{◌≡◌, ◌+◌, ◌^◌, ◌<◌, ◌≤
 ghost use Rattle.std.specs.Result.{MatchResult};
 ghost use Rattle.catalogue_file.specs.Layouts.{Fit, pair_place};
 ghost use Rattle.catalogue_file.specs.Files.{field, count as count_of};
-ghost use Rattle.catalogue_file.specs.Questions.{Sized};
+ghost use Rattle.catalogue_file.specs.Questions.{Sized, Headed};
 ghost use Rattle.catalogue_file.specs.Checking.{Refuses};
 ghost use Rattle.catalogue_file.specs.Faults.{says};
 
@@ -27,7 +27,7 @@ impl<'a> SizedFile<'a> {
         requires { Fit layout }
         ensures { MatchResult result
             (λ file. (file.layout ≡ layout) × (file.bytes.now ≡ bytes.now))
-            (λ f. Refuses layout bytes.now (says f)) }
+            (λ f. (Sized layout bytes.now → ⊥) × Refuses layout bytes.now (says f)) }
     {
         if layout.least <= bytes.len() && bytes.len() <= layout.most {
             Ok(SizedFile { layout, bytes })
@@ -67,7 +67,7 @@ impl<'a> SizedFile<'a> {
     pub fn headed(self) -> Result<HeadedFile<'a>, FileFault>
         ensures { MatchResult result
             (λ file. file.sized ≡ self.entry)
-            (λ f. Refuses self.entry.layout self.entry.bytes.now (says f)) }
+            (λ f. (Headed self.entry.layout self.entry.bytes.now → ⊥) × Refuses self.entry.layout self.entry.bytes.now (says f)) }
     {
         let layout = self.layout;
         let count = self.count();
