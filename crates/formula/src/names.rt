@@ -17,13 +17,16 @@ impl Scope<'_, '_> {
     pub fn index(&self, name: &[u8]) -> Option<u16>
         ensures { MatchOption result ((i : ℕ) → Bound (names_in self.now) name.now i → ⊥) (λ k. (i : ℕ) × Bound (names_in self.now) name.now i × (i ≤ 65535 → k ≡ i)) }
     {
-        let Scope::Under(binder, outer) = self else {
-            return None;
-        };
-        if same_name(binder, name) {
-            return Some(0);
+        // No iterator's `position`, which would ask that a usize can number all binders.
+        let mut scope = self;
+        let mut between = 0u16;
+        while let Scope::Under(binder, outer) = scope {
+            if same_name(binder, name) {
+                return Some(between);
+            }
+            between = between.saturating_add(1);
+            scope = outer;
         }
-        let k = outer.index(name)?;
-        Some(k.saturating_add(1))
+        None
     }
 }

@@ -47,7 +47,8 @@ impl<'a, C: Catalogue> Reader<'a, C> {
         Some(Symbol::Primitive(k))
     }
 
-    // Writes the node of a name, or answers its place where it is unknown.
+    // Writes the node of a name, or answers its place where it is unknown. Where there is no room for the node, the name
+    // isn't looked up: the text is refused for its size, and the names looked up and the binders around them stay few.
     fn settle(
         &self,
         scope: &Scope,
@@ -57,6 +58,9 @@ impl<'a, C: Catalogue> Reader<'a, C> {
     ) -> Option<usize>
         ensures { Settled (C.entries self.now.catalogue.now) (names_in scope.now) name.now place out.old out.new result }
     {
+        if out.is_empty() {
+            return None;
+        }
         let Some(symbol) = self.leaf(scope, name) else {
             return Some(place);
         };
