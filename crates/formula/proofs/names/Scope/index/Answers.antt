@@ -1,22 +1,18 @@
-use Rattle.std.proofs.Common.{◌≡◌, ℕ, refl, true, false, ap, arith}
+use Rattle.std.proofs.Common.{refl, ap}
 use Rattle.formula.specs.Parsing.{names_in}
-use Rattle.formula.proofs.Scopes.{passed_none, passed_one, found_here, found_nowhere}
+use Rattle.formula.proofs.Scopes.{false_no, none_within, first_bears, counted}
 use Rattle.formula.proofs.names.Scope.index.Goals as goal
 
--- a test that answered no
-false_no : {P : Type 0} → (P → false ≡ true) → P → ⊥
-false_no f p = let e = f p in let z : ◌≡◌ {A = ℕ} 0 1 = cc in omega arith
-
-pub loop-scope-init : goal.loop-scope-init
-loop-scope-init c = passed_none _ _
-
-pub loop-scope-preserved : goal.loop-scope-preserved
-loop-scope-preserved c =
-    passed_one _ _ _ _ _ _ (false_no c.if-same_name.ensures.1) (rw (ap names_in c.in-Under.is) at c.loop-scope.invariant) c.saturating_add-between.ensures
+pub returns-in-Even : goal.returns-in-Even
+returns-in-Even c = rw (ap names_in c.in-Even.is) c.index.ensures
 
 pub returns-then-same_name : goal.returns-then-same_name
-returns-then-same_name c =
-    found_here _ _ _ _ _ (c.if-same_name.ensures.0 refl) (rw (ap names_in c.in-Under.is) at c.loop-scope.invariant)
+returns-then-same_name c = (0, rw (ap names_in c.in-Odd.is) (first_bears _ _ _ (c.if-same_name.ensures.0 refl)), λ h. refl)
 
-pub returns : goal.returns
-returns c = found_nowhere _ _ _ (rw (ap names_in c.in_default.is) at c.loop-scope.invariant)
+pub returns-in_err-k-in-Odd : goal.returns-in_err-k-in-Odd
+returns-in_err-k-in-Odd c =
+    rw (c.from_residual.ensures, ap names_in c.in-Odd.is) (none_within _ _ _ (false_no c.if-same_name.ensures.1) c.in_err-k-in-Odd.ensures)
+
+pub returns-in_ok-k-in-Odd : goal.returns-in_ok-k-in-Odd
+returns-in_ok-k-in-Odd c =
+    rw (ap names_in c.in-Odd.is) (counted _ _ _ _ _ (false_no c.if-same_name.ensures.1) c.in_ok-k-in-Odd.ensures c.saturating_add.ensures)
