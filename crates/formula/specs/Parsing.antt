@@ -19,13 +19,19 @@ use Rattle.formula.specs.Firsts.{Fails}
 use Rattle.formula.specs.Names.{Resolves, uses, Known, references, Filed}
 use Rattle.formula.specs.Reading.{Parses, Formula}
 use Rattle.formula.specs.declared.expected.Head.{Head}
-use Rattle.formula.specs.declared.names.Scope.{Scope, Top, Under'}
+use Rattle.formula.specs.declared.names.Pairs.{Pairs, Top, Two'}
+use Rattle.formula.specs.declared.names.Scope.{Scope}
+use Rattle.formula.specs.declared.names.Scope.TheVariants.{Even, Odd}
 use Rattle.formula.specs.declared.parser.Reach.{Reach}
 
--- the names of the binders in a scope, the innermost first
+-- the names of the binders in a chain of pairs, and in a scope, the innermost first
+abbrev pub names_of : Pairs → List Name
+names_of Top = []
+names_of (Two' v w p s) = v.now ∷ w.now ∷ names_of s
+
 abbrev pub names_in : Scope → List Name
-names_in Top = []
-names_in (Under' w p s) = w.now ∷ names_in s
+names_in (Even s) = names_of s
+names_in (Odd w s) = w.now ∷ names_of s.now
 
 -- no abstraction begins here
 abbrev pub NoLambda : List Token → Type 0
@@ -97,9 +103,9 @@ abbrev pub Leaf : List Entry → List Name → Name → Option Symbol → Type 0
 Leaf es scope w (Some v) = ((o : ℕ) → Known es (record { name = w; at = o; scope = scope })) × (length scope ≤ 65535 → (t : Term) × (prefix t ≡ node_of v ∷ []) × ((o : ℕ) → Resolves es scope (named w o) t))
 Leaf es scope w None = (o : ℕ) → Known es (record { name = w; at = o; scope = scope }) → ⊥
 
--- a name settled: its node is written where there is room, or its place is answered
+-- a name settled: where there is room, its node is written, or its place is answered
 abbrev pub Settled : List Entry → List Name → Name → ℕ → List TermNode → List TermNode → Option ℕ → Type 0
-Settled es scope w place out out' None = ((o : ℕ) → Known es (record { name = w; at = o; scope = scope })) × (length scope ≤ 65535 → 0 < length out → (t : Term) × ((o : ℕ) → Resolves es scope (named w o) t) × (out' ≡ prefix t ++ drop 1 out))
+Settled es scope w place out out' None = 0 < length out → ((o : ℕ) → Known es (record { name = w; at = o; scope = scope })) × (length scope ≤ 65535 → (t : Term) × ((o : ℕ) → Resolves es scope (named w o) t) × (out' ≡ prefix t ++ drop 1 out))
 Settled es scope w place out out' (Some p) = (p ≡ place) × ((o : ℕ) → Known es (record { name = w; at = o; scope = scope }) → ⊥)
 
 -- where a reference is not filed, its place
@@ -113,8 +119,8 @@ pub record Advance (text : List ℕ) (from : ℕ) (r : Reach) : Type 0 where
   pub within : r.end ≤ length text
   pub small : r.count + 1 ≤ 2 * (r.end - from)
 
--- The tokens ts from here on begin with one of the kind. Its names are settled, and its term is written at the front of
--- the memory where it has room for it.
+-- The tokens ts from here on begin with one of the kind. Where the memory has room for its term, its names are settled,
+-- and the term is written at the front.
 pub record Made (kind : Kind) (text : List ℕ) (es : List Entry) (filed : ℕ) (scope : List Name) (out out' : List TermNode) (r : Reach) (ts : List Token) : Type 0 where
   pub tree : Tree
   pub front : List Token
@@ -124,7 +130,7 @@ pub record Made (kind : Kind) (text : List ℕ) (es : List Entry) (filed : ℕ) 
   pub remains : Rest text r.end rest
   pub count : r.count ≡ nodes tree
   pub filing : Fails (Filed filed) (λ x. x.at) (references tree) r.unfiled
-  pub naming : Fails (Known es) (λ u. u.at) (uses scope tree) r.unknown
+  pub naming : nodes tree ≤ length out → Fails (Known es) (λ u. u.at) (uses scope tree) r.unknown
   pub writing : length scope + nodes tree ≤ 65536 → r.unknown ≡ None → nodes tree ≤ length out → (t : Term) × Resolves es scope tree t × (out' ≡ prefix t ++ drop (nodes tree) out)
 
 -- One of the kind was read from here on, over whichever tokens the text has.
@@ -146,14 +152,14 @@ BlamesApplication text from f = (ts : List Token) → Rest text from ts → NoLa
 abbrev pub BlamesNext : List ℕ → ℕ → TextFault → Type 0
 BlamesNext text from f = (ts : List Token) → Rest text from ts → GoesOn ts → (g : Tree) (k : Frames) → Blames (after g k) ts (length text) f
 
--- The whole text was read. Its names are settled, and its term is written where the memory has room for it, up to 1,024
--- nodes.
+-- The whole text was read. Where the memory has room for its term, of up to 1,024 nodes, its names are settled, and the
+-- term is written.
 pub record Parsed (text : List ℕ) (es : List Entry) (filed : ℕ) (out out' : List TermNode) (r : Reach) : Type 0 where
   pub tree : Tree
   pub parses : Parses text tree
   pub count : r.count ≡ nodes tree
   pub filing : Fails (Filed filed) (λ x. x.at) (references tree) r.unfiled
-  pub naming : Fails (Known es) (λ u. u.at) (uses [] tree) r.unknown
+  pub naming : nodes tree ≤ 1024 → nodes tree ≤ length out → Fails (Known es) (λ u. u.at) (uses [] tree) r.unknown
   pub writing : nodes tree ≤ 1024 → r.unknown ≡ None → nodes tree ≤ length out → (t : Term) × Resolves es [] tree t × (out' ≡ prefix t ++ drop (nodes tree) out)
 
 -- why the text is no expression

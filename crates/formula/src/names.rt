@@ -1,29 +1,70 @@
 // What a name means: the innermost binder around it that bears it.
-ghost use Rattle.std.specs.Prelude.{◌≡◌, ℕ, ◌≤◌, MatchOption};
+ghost use Rattle.std.specs.Prelude.{◌≡◌, ℕ, ◌≤◌, ◌∷◌, MatchOption};
 ghost use Rattle.formula.specs.Names.{Bound};
-ghost use Rattle.formula.specs.Parsing.{names_in};
+ghost use Rattle.formula.specs.Parsing.{names_in, names_of};
 
 use catalogue::names::same_name;
+
+// Binders in a chain, the innermost first: two in a link, so that the way outwards takes half as many steps.
+#[derive(Clone, Copy)]
+pub enum Pairs<'s, 'a> {
+    Top,
+    Two(&'a [u8], &'a [u8], &'s Pairs<'s, 'a>),
+}
+
+impl Pairs<'_, '_> {
+    // How many binders stand between a name and the innermost that bears it, if one does; 65,535 stands for more too.
+    fn index(&self, name: &[u8]) -> Option<u16>
+        ensures { MatchOption result ((i : ℕ) → Bound (names_of self.now) name.now i → ⊥) (λ k. (i : ℕ) × Bound (names_of self.now) name.now i × (i ≤ 65535 → k ≡ i)) }
+    {
+        // No iterator's `position`, which would ask that a usize can number all binders.
+        let mut pairs = self;
+        let mut between = 0u16;
+        while let Pairs::Two(binder, next, outer) = pairs {
+            if same_name(binder, name) {
+                return Some(between);
+            }
+            if same_name(next, name) {
+                return Some(between.saturating_add(1));
+            }
+            between = between.saturating_add(2);
+            pairs = outer;
+        }
+        None
+    }
+}
 
 // The binders around a place, the innermost first.
 #[derive(Clone, Copy)]
 pub enum Scope<'s, 'a> {
-    Top,
-    Under(&'a [u8], &'s Scope<'s, 'a>),
+    Even(Pairs<'s, 'a>),
+    Odd(&'a [u8], &'s Pairs<'s, 'a>),
 }
 
-impl Scope<'_, '_> {
+impl<'s, 'a> Scope<'s, 'a> {
+    // The binders around a place under one binder more.
+    pub fn under<'t>(&'t self, binder: &'a [u8]) -> Scope<'t, 'a>
+        ensures { names_in result ≡ binder.now ∷ names_in self.now }
+    {
+        match self {
+            Scope::Even(pairs) => Scope::Odd(binder, pairs),
+            Scope::Odd(next, pairs) => Scope::Even(Pairs::Two(binder, next, pairs)),
+        }
+    }
+
     // How many binders stand between a name and the innermost that bears it, if one does; 65,535 stands for more too.
     pub fn index(&self, name: &[u8]) -> Option<u16>
         ensures { MatchOption result ((i : ℕ) → Bound (names_in self.now) name.now i → ⊥) (λ k. (i : ℕ) × Bound (names_in self.now) name.now i × (i ≤ 65535 → k ≡ i)) }
     {
-        let Scope::Under(binder, outer) = self else {
-            return None;
-        };
-        if same_name(binder, name) {
-            return Some(0);
+        match self {
+            Scope::Even(pairs) => pairs.index(name),
+            Scope::Odd(binder, pairs) => {
+                if same_name(binder, name) {
+                    return Some(0);
+                }
+                let k = pairs.index(name)?;
+                Some(k.saturating_add(1))
+            }
         }
-        let k = outer.index(name)?;
-        Some(k.saturating_add(1))
     }
 }

@@ -9,7 +9,7 @@ ghost use Rattle.grammar.specs.Grammar.{expression as anExpression, application 
 
 use crate::expected::{abstraction_head, closing, expected, follows};
 use crate::memory::{lift, put};
-use crate::names::Scope;
+use crate::names::{Pairs, Scope};
 use catalogue::interface::Catalogue;
 use term::{Symbol, TermNode};
 use text::fault::TextFault;
@@ -47,7 +47,8 @@ impl<'a, C: Catalogue> Reader<'a, C> {
         Some(Symbol::Primitive(k))
     }
 
-    // Writes the node of a name, or answers its place where it is unknown.
+    // Writes the node of a name, or answers its place where it is unknown. Where there is no room for the node, the name
+    // isn't looked up: the text is refused for its size, and the names looked up and the binders around them stay few.
     fn settle(
         &self,
         scope: &Scope,
@@ -57,6 +58,9 @@ impl<'a, C: Catalogue> Reader<'a, C> {
     ) -> Option<usize>
         ensures { Settled (C.entries self.now.catalogue.now) (names_in scope.now) name.now place out.old out.new result }
     {
+        if out.is_empty() {
+            return None;
+        }
         let Some(symbol) = self.leaf(scope, name) else {
             return Some(place);
         };
@@ -84,7 +88,7 @@ impl<'a, C: Catalogue> Reader<'a, C> {
             return self.application(from, &*scope, out);
         };
         put(out, Symbol::Abstraction);
-        let inner = Scope::Under(head.name, &*scope);
+        let inner = scope.under(head.name);
         let start = out.len().min(1);
         let body = self.expression(head.end, &inner, &mut out[start..])?;
         Ok(Reach {
@@ -161,7 +165,7 @@ impl<'a, C: Catalogue> Reader<'a, C> {
         ensures { MatchResult result (λ q. Parsed self.now.lexer.text.now (C.entries self.now.catalogue.now) self.now.filed out.old out.new q) (λ f. NotParsed self.now.lexer.text.now f) }
     {
         self.lexer.scan()?;
-        let all = self.expression(0, &Scope::Top, out)?;
+        let all = self.expression(0, &Scope::Even(Pairs::Top), out)?;
         match self.lexer.next(all.end)? {
             Some(found) => Err(TextFault::Misplaced(found.at)),
             None => Ok(all),

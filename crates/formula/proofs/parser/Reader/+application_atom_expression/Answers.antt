@@ -129,4 +129,4 @@ expression-returns-in_err-body g t c =
 pub expression-returns : goal.expression-returns
 expression-returns g t c =
     let h = rw c.in-Some.is at c.in_ok-head.ensures in
-    ended_abstraction _ _ _ _ _ c.put.new.out c.expression.new.out _ _ c.in-Some.head _ c.min-start.result h c.put.ensures (λ some. omega (arith, c.min-start.ensures)) (omega arith) (written_end c.min-start.result c.put.new.out c.expression.new.out) (rw (part_end c.min-start.result c.put.new.out) at c.in_ok-body.ensures)
+    ended_abstraction _ _ _ _ _ c.put.new.out c.expression.new.out _ _ c.in-Some.head _ c.min-start.result h c.put.ensures (λ some. omega (arith, c.min-start.ensures)) (omega arith) (written_end c.min-start.result c.put.new.out c.expression.new.out) (rw (part_end c.min-start.result c.put.new.out, c.under-inner.ensures) at c.in_ok-body.ensures)
