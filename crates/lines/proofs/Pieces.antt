@@ -3,13 +3,12 @@ use Rattle.std.proofs.Common.{◌≡◌, ℕ, ◌+◌, ◌^◌, ◌<◌, ◌≤�
 use Rattle.std.proofs.lemmas.List.{length-append}
 use Rattle.std.proofs.lemmas.Fmt.{length-decimal-le}
 use Rattle.std.proofs.lemmas.Bool.{cond_both, leb-true}
-use Rattle.refusal.specs.declared.Refusal.{Refusal}
 use Rattle.types.specs.declared.TypeNode.{TypeNode}
 use Rattle.types.specs.Lists.{meaning}
 use Rattle.printing.specs.Text.{text}
 use Rattle.printing.specs.Writing.{Wrote}
-use Rattle.printing.proofs.Over.{two_pieces, three_pieces}
-use Rattle.lines.specs.Lines.{line_room, line_end, filed_head, refused_head, if_short, filed_line, refused_line, Lined}
+use Rattle.printing.proofs.Over.{three_pieces}
+use Rattle.lines.specs.Lines.{line_room, line_end, filed_head, if_short, filed_line, Lined}
 
 -- a number of up to 16 bits has at most 5 digits, one of up to 64 bits at most 20
 pub short_number : (n : ℕ) → n < 2 ^ 16 → length (decimal n) ≤ 5
@@ -33,10 +32,6 @@ filed_fits n list h =
     let t = if_short (text (meaning list)) in
     omega (arith, five_long (codes "#") (decimal n) (codes " : ") t line_end, filed_number n h, short_text (text (meaning list)))
 
-refused_fits : (r : Refusal) → r.number < 2 ^ 16 → r.place < 2 ^ 64 → length (refused_line r) ≤ line_room
-refused_fits r h h' =
-    omega (arith, five_long (codes "refused ") (decimal r.number) (codes " at ") (decimal r.place) line_end, short_number r.number h, long_number r.place h')
-
 -- what is written from the front on is a line
 lined : (m m' line : List ℕ) (n : ℕ) → length line ≤ line_room → Wrote m m' 0 line n → Lined line m m' n
 lined m m' line n fits w =
@@ -50,9 +45,6 @@ lined m m' line n fits w =
 pub filed_head_long : (n : ℕ) → length (filed_head n) ≡ length (decimal n) + 4
 filed_head_long n = omega (arith, length-append (decimal n) (codes " : "))
 
-pub refused_head_long : (r : Refusal) → length (refused_head r) ≡ length (decimal r.number) + length (decimal r.place) + 12
-refused_head_long r = omega (arith, length-append (decimal r.number) (codes " at " ++ decimal r.place))
-
 -- the head, the type and the end, each where the one before ends
 pub filed_written : (n : ℕ) (list : List TypeNode) (m m₁ m₂ m₃ : List ℕ) (i j k : ℕ) → n < 128 → line_room ≤ length m → Wrote m m₁ 0 (filed_head n) i → Wrote m₁ m₂ i (if_short (text (meaning list))) j → Wrote m₂ m₃ j line_end k → Lined (filed_line n list) m m₃ k
 filed_written n list m m₁ m₂ m₃ i j k few room a b c =
@@ -61,11 +53,3 @@ filed_written n list m m₁ m₂ m₃ i j k few room a b c =
     let whole : filed_head n ++ (t ++ line_end) ≡ filed_line n list = simp append_assoc in
     lined m m₃ (filed_line n list) k fits
     (subst (λ (x : List ℕ). Wrote m m₃ 0 x k) whole (three_pieces m m₁ m₂ m₃ 0 i j k (filed_head n) t line_end (omega (arith, ap length whole)) a b c))
-
--- the head and the end
-pub refused_written : (r : Refusal) (m m₁ m₂ : List ℕ) (i j : ℕ) → r.number < 2 ^ 16 → r.place < 2 ^ 64 → line_room ≤ length m → Wrote m m₁ 0 (refused_head r) i → Wrote m₁ m₂ i line_end j → Lined (refused_line r) m m₂ j
-refused_written r m m₁ m₂ i j few many room a b =
-    let fits = refused_fits r few many in
-    let whole : refused_head r ++ line_end ≡ refused_line r = simp append_assoc in
-    lined m m₂ (refused_line r) j fits
-    (subst (λ (x : List ℕ). Wrote m m₂ 0 x j) whole (two_pieces m m₁ m₂ 0 i j (refused_head r) line_end (omega (arith, ap length whole)) a b))

@@ -6,7 +6,7 @@ ghost use Rattle.arrayvec.specs.ArrayString.{array_string_len};
 ghost use Rattle.types.specs.Lists.{Lawful, meaning};
 ghost use Rattle.printing.specs.Text.{text};
 ghost use Rattle.printing.specs.Writing.{Wrote};
-ghost use Rattle.lines.specs.Lines.{line_room, head_room, filed_head, refused_head, if_short, filed_line, refused_line, Lined};
+ghost use Rattle.lines.specs.Lines.{line_room, line_end, head_room, filed_head, refused_head, if_short, filed_line, refused_line, Lined};
 
 use arrayvec::ArrayString;
 use itoa::Buffer;
@@ -70,6 +70,14 @@ fn put_type(out: &mut [u8], at: usize, list: &[TypeNode]) -> usize
     }
 }
 
+// Ends a line at a place, and answers its length.
+fn end_line(out: &mut [u8], at: usize) -> usize
+    requires { at < length out.old }
+    ensures { Wrote out.old out.new at line_end result }
+{
+    put(out, at, b"\n")
+}
+
 // Writes the line of a formula that was filed under a number with the list of its type, and answers its length.
 pub fn write_filed(number: u16, list: &[TypeNode], out: &mut [u8]) -> usize
     requires filed { number < 128 }
@@ -80,7 +88,7 @@ pub fn write_filed(number: u16, list: &[TypeNode], out: &mut [u8]) -> usize
     let head = start_filed(number);
     let start = put(out, 0, head.as_str().as_bytes());
     let end = put_type(out, start, list);
-    put(out, end, b"\n")
+    end_line(out, end)
 }
 
 // Writes the line of a formula that was refused, and answers its length.
@@ -90,7 +98,7 @@ pub fn write_refused(refusal: Refusal, out: &mut [u8]) -> usize
 {
     let head = start_refused(refusal);
     let end = put(out, 0, head.as_str().as_bytes());
-    put(out, end, b"\n")
+    end_line(out, end)
 }
 
 #[cfg(test)]

@@ -7,7 +7,7 @@ use Rattle.types.specs.Lists.{zero_node, Lawful, type_at}
 use Rattle.types.specs.Shapes.{of_kind, shape_of}
 use Rattle.printing.specs.Text.{letters, text}
 use Rattle.printing.specs.Writing.{arrow_text}
-use Rattle.types.proofs.Reading.{at_variable, at_branch}
+use Rattle.types.proofs.Reading.{lower_at, at_variable, at_branch}
 
 record IsVariable (kind left a : ℕ) : Type 0 where
   zero : kind ≡ 0
@@ -38,6 +38,13 @@ module _ (l : List TypeNode) (law : Lawful l) (p : ℕ) (h : p < length l) where
   text_variable a e =
       let says = says_variable here.kind here.left here.right a e in
       ap text (at_variable l law.each p h says.zero) ∙ ap letters says.number
+
+  -- the parts of an arrow stand lower
+  pub parts_lower : (a b : ℕ) → shape_of here ≡ Some (Arrow a b) → (a < p) × (b < p)
+  parts_lower a b e =
+      let says = says_arrow here.kind here.left here.right a b e in
+      let low = lower_at l law.each p h (omega (arith, says.two)) in
+      (omega (arith, low.0, says.from), omega (arith, low.1, says.to))
 
   pub text_arrow : (a b : ℕ) → shape_of here ≡ Some (Arrow a b) → text (type_at l p) ≡ arrow_text l a b
   text_arrow a b e =

@@ -24,11 +24,6 @@ capped list place = min (length (text (type_at list place))) 4097
 abbrev pub Measured : List TypeNode → List ℕ → ℕ → Type 0
 Measured list lengths n = (p : ℕ) → p < n → slice_index lengths p ≡ capped list p
 
--- the bytes were put behind a text, unless there was no room for them in 4,096
-abbrev pub Added : List ℕ → List ℕ → List ℕ → Result Unit ShowFault → Type 0
-Added before bytes after (Ok done) = (after ≡ before ++ bytes) × (length before + length bytes ≤ 4096)
-Added before bytes after (Err fault) = (fault ≡ TooLong) × (4096 < length before + length bytes)
-
 -- the text of the arrow between two places
 abbrev pub arrow_text : List TypeNode → ℕ → ℕ → List ℕ
 arrow_text list left right = left_text (type_at list left) ++ (codes " -> " ++ text (type_at list right))

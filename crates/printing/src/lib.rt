@@ -1,10 +1,11 @@
 // The printed text of a type.
 #![tactic(auto)]
 
-ghost use Rattle.std.specs.Prelude.{◌≡◌, ◌+◌, ◌-◌, ◌<◌, ◌≤◌, min, length, slice_index};
+ghost use Rattle.std.specs.Prelude.{◌≡◌, ◌+◌, ◌-◌, ◌<◌, ◌≤◌, ◌++◌, min, length, slice_index};
+ghost use Rattle.arrayvec.specs.ArrayString.{array_string_len};
 ghost use Rattle.types.specs.Lists.{Lawful, type_at, meaning};
 ghost use Rattle.printing.specs.Text.{letters, left_part, is_arrow, text};
-ghost use Rattle.printing.specs.Writing.{Wrote, capped, Measured, LengthFound, Added, arrow_text, Spelled, Shown};
+ghost use Rattle.printing.specs.Writing.{Wrote, capped, Measured, LengthFound, arrow_text, Spelled, Shown};
 ghost use Rattle.printing.specs.declared.ShowFault.TheVariants.{TooLong};
 
 use arrayvec::{ArrayString, CapacityError};
@@ -32,7 +33,7 @@ pub enum ShowFault {
     TooLong,
 }
 
-// A text that is full is that of a type whose text is too long.
+// A text that is full is that of a type whose text is too long: for callers that put such texts together.
 impl<T: Drop> From<CapacityError<T>> for ShowFault {
     ghost from_gives = { λ _ fault. fault ≡ TooLong };
 
@@ -146,30 +147,28 @@ fn text_length(list: &[TypeNode]) -> Result<usize, ShowFault>
 }
 
 // Puts the letters of a variable behind a text.
-fn push_letters(out: &mut TypeText, number: u16) -> Result<(), ShowFault>
-    ensures { Added out.old.bytes (letters number) out.new.bytes result }
+fn push_letters(out: &mut TypeText, number: u16)
+    requires { array_string_len out.old + length (letters number) ≤ 4096 }
+    ensures { out.new.bytes ≡ out.old.bytes ++ letters number }
 {
-    out.try_push(char::from(b'a' + (number % 26) as u8))?;
+    out.push(char::from(b'a' + (number % 26) as u8));
     if number >= 26 {
         let mut digits = Buffer::new();
-        out.try_push_str(digits.format(number / 26))?;
+        out.push_str(digits.format(number / 26));
     }
-    Ok(())
 }
 
 // Puts the text at a place behind a text.
 #[cycle(push_type)]
-fn push_type(out: &mut TypeText, list: &[TypeNode], place: u16) -> Result<(), ShowFault>
+fn push_type(out: &mut TypeText, list: &[TypeNode], place: u16)
     requires lawful { Lawful list.now }
     requires here { place < length list.now }
-    ensures { Added out.old.bytes (text (type_at list.now place)) out.new.bytes result }
+    requires room { array_string_len out.old + length (text (type_at list.now place)) ≤ 4096 }
+    ensures { out.new.bytes ≡ out.old.bytes ++ text (type_at list.now place) }
 {
     match list[place as usize].shape() {
         Some(Shape::Variable(number)) => push_letters(out, number),
-        Some(Shape::Base(code)) => {
-            out.try_push_str(BASE_NAMES[code as usize])?;
-            Ok(())
-        }
+        Some(Shape::Base(code)) => out.push_str(BASE_NAMES[code as usize]),
         Some(Shape::Arrow(left, right)) => push_arrow(out, list, left, right),
         None => unreachable!(),
     }
@@ -177,43 +176,40 @@ fn push_type(out: &mut TypeText, list: &[TypeNode], place: u16) -> Result<(), Sh
 
 // Puts the text of the arrow between two places behind a text.
 #[cycle(push_type)]
-fn push_arrow(out: &mut TypeText, list: &[TypeNode], left: u16, right: u16) -> Result<(), ShowFault>
+fn push_arrow(out: &mut TypeText, list: &[TypeNode], left: u16, right: u16)
     requires lawful { Lawful list.now }
     requires left { left < length list.now }
     requires right { right < length list.now }
-    ensures { Added out.old.bytes (arrow_text list.now left right) out.new.bytes result }
+    requires room { array_string_len out.old + length (arrow_text list.now left right) ≤ 4096 }
+    ensures { out.new.bytes ≡ out.old.bytes ++ arrow_text list.now left right }
 {
     let in_brackets = needs_brackets(list, left);
-    push_left(out, list, left, in_brackets)?;
-    out.try_push_str(" -> ")?;
+    push_left(out, list, left, in_brackets);
+    out.push_str(" -> ");
     push_type(out, list, right)
 }
 
 // Puts the text at a place behind a text, in brackets or without.
 #[cycle(push_type)]
-fn push_left(
-    out: &mut TypeText,
-    list: &[TypeNode],
-    place: u16,
-    in_brackets: bool,
-) -> Result<(), ShowFault>
+fn push_left(out: &mut TypeText, list: &[TypeNode], place: u16, in_brackets: bool)
     requires lawful { Lawful list.now }
     requires here { place < length list.now }
-    ensures { Added out.old.bytes (left_part in_brackets (text (type_at list.now place))) out.new.bytes result }
+    requires room { array_string_len out.old + length (left_part in_brackets (text (type_at list.now place))) ≤ 4096 }
+    ensures { out.new.bytes ≡ out.old.bytes ++ left_part in_brackets (text (type_at list.now place)) }
 {
     if !in_brackets {
         return push_type(out, list, place);
     }
-    out.try_push_str("(")?;
-    push_type(out, list, place)?;
-    out.try_push_str(")")?;
-    Ok(())
+    out.push_str("(");
+    push_type(out, list, place);
+    out.push_str(")");
 }
 
 // Puts the text of the list's type behind a text.
-fn spell(list: &[TypeNode], out: &mut TypeText) -> Result<(), ShowFault>
-    requires { Lawful list.now }
-    ensures { Added out.old.bytes (text (meaning list.now)) out.new.bytes result }
+fn spell(list: &[TypeNode], out: &mut TypeText)
+    requires lawful { Lawful list.now }
+    requires room { array_string_len out.old + length (text (meaning list.now)) ≤ 4096 }
+    ensures { out.new.bytes ≡ out.old.bytes ++ text (meaning list.now) }
 {
     push_type(out, list, list.len() as u16 - 1)
 }
@@ -224,7 +220,7 @@ pub fn text_of(list: &[TypeNode]) -> Result<TypeText, ShowFault>
 {
     text_length(list)?;
     let mut out = TypeText::new();
-    spell(list, &mut out)?;
+    spell(list, &mut out);
     Ok(out)
 }
 
@@ -237,7 +233,7 @@ pub fn show(list: &[TypeNode], out: &mut [u8]) -> Result<usize, ShowFault>
         return Err(ShowFault::TooLong);
     }
     let mut text = TypeText::new();
-    spell(list, &mut text)?;
+    spell(list, &mut text);
     out[..bytes].copy_from_slice(text.as_str().as_bytes());
     Ok(bytes)
 }
