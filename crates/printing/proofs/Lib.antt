@@ -1,1 +1,2 @@
+pub mod Over
 mod Arrows

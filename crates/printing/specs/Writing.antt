@@ -1,5 +1,5 @@
--- The text of a type as it is written, and what a request to print leaves and answers.
-use Rattle.std.specs.Prelude.{◌≡◌, ℕ, ◌+◌, ◌<◌, ◌≤◌, List, ◌++◌, length, drop, Ok, Err, Result, codes}
+-- Bytes written over a memory, the text of a type and its length, and what a request to print leaves and answers.
+use Rattle.std.specs.Prelude.{◌≡◌, ℕ, ◌+◌, ◌<◌, ◌≤◌, min, List, ◌++◌, length, take, drop, Ok, Err, Result, codes, slice_index}
 use Rattle.types.specs.declared.TypeNode.{TypeNode}
 use Rattle.types.specs.Lists.{Lawful, type_at, meaning}
 use Rattle.printing.specs.Text.{left_text, text}
@@ -7,10 +7,22 @@ use Rattle.arrayvec.specs.ArrayString.{ArrayString}
 use Rattle.printing.specs.declared.ShowFault.{ShowFault}
 use Rattle.printing.specs.declared.ShowFault.TheVariants.{Unlawful, TooLong}
 
--- the bytes were put behind a text, unless there was no room for them in 4,096
-abbrev pub Added : List ℕ → List ℕ → List ℕ → Result Unit ShowFault → Type 0
-Added before bytes after (Ok done) = (after ≡ before ++ bytes) × (length before + length bytes ≤ 4096)
-Added before bytes after (Err fault) = (fault ≡ TooLong) × (4096 < length before + length bytes)
+-- the memory with the bytes written over it from a place on
+abbrev pub over : List ℕ → ℕ → List ℕ → List ℕ
+over memory at bytes = take at memory ++ (bytes ++ drop (at + length bytes) memory)
+
+-- the bytes were written from a place on, and end where the answer says
+pub record Wrote (before after : List ℕ) (at : ℕ) (bytes : List ℕ) (end : ℕ) : Type 0 where
+  pub leaves : after ≡ over before at bytes
+  pub stop : end ≡ at + length bytes
+
+-- the length of the text at a place, and 4,097 for each that is longer
+abbrev pub capped : List TypeNode → ℕ → ℕ
+capped list place = min (length (text (type_at list place))) 4097
+
+-- the lengths at the first places are known
+abbrev pub Measured : List TypeNode → List ℕ → ℕ → Type 0
+Measured list lengths n = (p : ℕ) → p < n → slice_index lengths p ≡ capped list p
 
 -- the text of the arrow between two places
 abbrev pub arrow_text : List TypeNode → ℕ → ℕ → List ℕ
@@ -26,6 +38,17 @@ pub record Text (list : List TypeNode) (bytes : List ℕ) : Type 0 where
 pub record TextTooLong (list : List TypeNode) : Type 0 where
   pub lawful : Lawful list
   pub long : 4096 < length (text (meaning list))
+
+-- the list is lawful, and the text of its type has so many bytes, at most 4,096
+pub record TextLength (list : List TypeNode) (n : ℕ) : Type 0 where
+  pub lawful : Lawful list
+  pub is : n ≡ length (text (meaning list))
+  pub short : n ≤ 4096
+
+abbrev pub LengthFound : List TypeNode → Result ℕ ShowFault → Type 0
+LengthFound list (Ok n) = TextLength list n
+LengthFound list (Err Unlawful) = Lawful list → ⊥
+LengthFound list (Err TooLong) = TextTooLong list
 
 abbrev pub Spelled : List TypeNode → Result ArrayString ShowFault → Type 0
 Spelled list (Ok t) = Text list t.bytes

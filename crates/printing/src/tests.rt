@@ -5,7 +5,7 @@ use super::*;
 use std::process::Abort;
 use std::test::Fail;
 
-// The list prints as expected, and no byte beyond is touched.
+// The list prints as expected, into a memory and as a text, and no byte beyond is touched.
 fn prints(rt: &impl Abort, list: &[TypeNode], expected: &[u8]) -> Result<(), Fail> {
     let mut out = [b'#'; 40];
     let n = show(list, &mut out)?;
@@ -13,6 +13,8 @@ fn prints(rt: &impl Abort, list: &[TypeNode], expected: &[u8]) -> Result<(), Fai
     assert!(rt; n < 40);
     assert!(rt; &out[0..n] == expected);
     assert!(rt; out[n..].iter().all(|byte| *byte == b'#'));
+    let text = text_of(list)?;
+    assert!(rt; text.as_str().as_bytes() == expected);
     Ok(())
 }
 
