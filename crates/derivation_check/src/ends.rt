@@ -43,7 +43,8 @@ impl<'t, 's> Prefix<'t, 's> {
     // Notes the sizes of the terms that begin at the first nodes, from right to left.
     pub fn new(terms: &'t [TermNode], sizes: &'s mut [usize]) -> Self
         requires { length sizes.old ≤ length terms.now }
-        ensures { result.terms.now ≡ terms.now }
+        ensures terms { result.terms.now ≡ terms.now }
+        ensures noted { length result.sizes.now ≡ length sizes.old }
     {
         for i in (0..sizes.len()).rev() {
             let rest = Prefix {

@@ -9,6 +9,7 @@ use Rattle.types.specs.Lists.{zero_node, type_at}
 use Rattle.types.specs.Shapes.{shape_of}
 use Rattle.instance.specs.declared.matching.Matching.{Matching}
 use Rattle.instance.specs.Matching.{Gave, Taken, Given, Pending, Within, Passed, Clash, Stepped}
+use Rattle.instance.specs.Slots.{places}
 use Rattle.instance.proofs.Shapes.{type_of, meant, meant_some, lower}
 use Rattle.instance.proofs.Places.{left_of, right_of, places_are_types}
 use Rattle.instance.proofs.Tables.{OfPlaces, gave_onto, gave_back}
@@ -23,7 +24,24 @@ no_arrow l (Variable v) t u e other = cc
 no_arrow l (Base d) t u e other = cc
 no_arrow l (Arrow a b) t u e other = other a b refl
 
-module _ (m : Matching) (k : ℕ) (here : k < length m.general.now) (ins : Within (length m.special.now) m.nodes m.variables (k + 1)) (place : ℕ) (marked : get_or m.nodes k None ≡ Some place) where
+-- a node that nothing is asked of
+pub step_free : (m : Matching) (k : ℕ) → Within (length m.special.now) (places m.nodes) (places m.variables) (k + 1) → get_or (places m.nodes) k None ≡ None → Passed m.general.now m.special.now (places m.nodes) (places m.nodes) (places m.variables) (places m.variables) k
+step_free m k ins free =
+    record {
+      within = record { parts = λ j q h e. ins.parts j q (omega arith) e; named = ins.named };
+      onto = λ σ p. record { parts = λ j q h e. p.parts j q (omega arith) e; named = p.named };
+      back = λ σ p.
+          record {
+            parts = λ j q h e.
+                elim (cases_eq j k) [
+                  | inl same ↦ (let at : get_or (places m.nodes) k None ≡ Some q = subst (λ (i : ℕ). get_or (places m.nodes) i None ≡ Some q) same e in absurd (cc (at, free)))
+                  | inr other ↦ p.parts j q (omega arith) e
+                ];
+            named = p.named;
+          };
+    }
+
+module _ (m : Matching) (k : ℕ) (here : k < length m.general.now) (ins : Within (length m.special.now) (places m.nodes) (places m.variables) (k + 1)) (place : ℕ) (marked : get_or (places m.nodes) k None ≡ Some place) where
   abbrev g : List TypeNode
   g = m.general.now
 
@@ -31,10 +49,10 @@ module _ (m : Matching) (k : ℕ) (here : k < length m.general.now) (ins : Withi
   s = m.special.now
 
   abbrev ns : List (Option ℕ)
-  ns = m.nodes
+  ns = places m.nodes
 
   abbrev vs : List (Option ℕ)
-  vs = m.variables
+  vs = places m.variables
 
   abbrev Asks : (ℕ → Ty) → ℕ → ℕ → Type 0
   Asks σ j q = j < k → apply σ (type_at g j) ≡ type_at s q
@@ -48,7 +66,7 @@ module _ (m : Matching) (k : ℕ) (here : k < length m.general.now) (ins : Withi
   inside_below : OfPlaces ns Inside
   inside_below j q e h = ins.parts j q (omega arith) e
 
-  place_inside : place < length s
+  pub place_inside : place < length s
   place_inside = ins.parts k place (omega arith) marked
 
   asked : (σ : ℕ → Ty) → Pending g s ns vs (k + 1) σ → apply σ (type_at g k) ≡ type_at s place

@@ -5,3 +5,4 @@ pub mod Asking
 pub mod Walk
 pub mod Growing
 pub mod Joining
+pub mod Slots
