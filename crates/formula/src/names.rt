@@ -6,12 +6,12 @@ ghost use Rattle.formula.specs.Parsing.{names_in, names_of};
 
 use catalogue::names::same_name;
 
-// Whether a binder bears a name. Most others differ from it in their first byte already.
+// Whether a binder bears a name. Most others differ in their length or first byte already.
 fn bears(binder: &[u8], name: &[u8]) -> bool
     ensures { Decides result (Same binder.now name.now) }
 {
-    let differs = !binder.is_empty() && !name.is_empty() && binder[0] != name[0];
-    !differs && same_name(binder, name)
+    let alike = binder.len() == name.len() && (name.is_empty() || binder[0] == name[0]);
+    alike && same_name(binder, name)
 }
 
 // Binders in a chain, the innermost first: two in a link, so that the way outwards takes half as many steps.
