@@ -1,9 +1,18 @@
 // What a name means: the innermost binder around it that bears it.
-ghost use Rattle.std.specs.Prelude.{◌≡◌, ℕ, ◌≤◌, ◌∷◌, MatchOption};
+ghost use Rattle.std.specs.Prelude.{◌≡◌, ℕ, ◌≤◌, ◌∷◌, MatchOption, Decides};
+ghost use Rattle.catalogue.specs.Names.{Same};
 ghost use Rattle.formula.specs.Names.{Bound};
 ghost use Rattle.formula.specs.Parsing.{names_in, names_of};
 
 use catalogue::names::same_name;
+
+// Whether a binder bears a name. Most others differ in their length or first byte already.
+fn bears(binder: &[u8], name: &[u8]) -> bool
+    ensures { Decides result (Same binder.now name.now) }
+{
+    let alike = binder.len() == name.len() && (name.is_empty() || binder[0] == name[0]);
+    alike && same_name(binder, name)
+}
 
 // Binders in a chain, the innermost first: two in a link, so that the way outwards takes half as many steps.
 #[derive(Clone, Copy)]
@@ -21,10 +30,10 @@ impl Pairs<'_, '_> {
         let mut pairs = self;
         let mut between = 0u16;
         while let Pairs::Two(binder, next, outer) = pairs {
-            if same_name(binder, name) {
+            if bears(binder, name) {
                 return Some(between);
             }
-            if same_name(next, name) {
+            if bears(next, name) {
                 return Some(between.saturating_add(1));
             }
             between = between.saturating_add(2);
@@ -59,7 +68,7 @@ impl<'s, 'a> Scope<'s, 'a> {
         match self {
             Scope::Even(pairs) => pairs.index(name),
             Scope::Odd(binder, pairs) => {
-                if same_name(binder, name) {
+                if bears(binder, name) {
                     return Some(0);
                 }
                 let k = pairs.index(name)?;

@@ -9,15 +9,15 @@ loop-pairs-init c = passed_none _ _
 pub returns : goal.returns
 returns c = found_nowhere _ _ _ (rw (ap names_of c.in_default.is) at c.loop-pairs.invariant)
 
-pub returns-then-same_name : goal.returns-then-same_name
-returns-then-same_name c =
-    found_here _ _ _ _ _ (c.if-same_name.ensures.0 refl) (rw (ap names_of c.in-Two.is) at c.loop-pairs.invariant)
+pub returns-then-bears : goal.returns-then-bears
+returns-then-bears c =
+    found_here _ _ _ _ _ (c.if-bears.ensures.0 refl) (rw (ap names_of c.in-Two.is) at c.loop-pairs.invariant)
 
-pub returns-then-same_name-2 : goal.returns-then-same_name-2
-returns-then-same_name-2 c =
-    let first = passed_one _ _ _ _ _ _ (false_no c.if-same_name.ensures.1) (rw (ap names_of c.in-Two.is) at c.loop-pairs.invariant) c.saturating_add.ensures in
-    found_here _ _ _ _ _ (c.if-same_name-2.ensures.0 refl) first
+pub returns-then-bears-2 : goal.returns-then-bears-2
+returns-then-bears-2 c =
+    let first = passed_one _ _ _ _ _ _ (false_no c.if-bears.ensures.1) (rw (ap names_of c.in-Two.is) at c.loop-pairs.invariant) c.saturating_add.ensures in
+    found_here _ _ _ _ _ (c.if-bears-2.ensures.0 refl) first
 
 pub loop-pairs-preserved : goal.loop-pairs-preserved
 loop-pairs-preserved c =
-    passed_two _ _ _ _ _ _ _ (false_no c.if-same_name.ensures.1) (false_no c.if-same_name-2.ensures.1) (rw (ap names_of c.in-Two.is) at c.loop-pairs.invariant) c.saturating_add-between.ensures
+    passed_two _ _ _ _ _ _ _ (false_no c.if-bears.ensures.1) (false_no c.if-bears-2.ensures.1) (rw (ap names_of c.in-Two.is) at c.loop-pairs.invariant) c.saturating_add-between.ensures
