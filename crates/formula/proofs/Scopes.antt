@@ -12,12 +12,12 @@ false_no f p = let e = f p in let z : ◌≡◌ {A = ℕ} 0 1 = cc in omega arit
 none_around : (w : Name) (i : ℕ) → Bound [] w i → ⊥
 none_around w i b = omega (arith, b.within)
 
-pub none_within : (rest : List Name) (v w : Name) → (Same v w → ⊥) → ((j : ℕ) → Bound rest w j → ⊥) → (i : ℕ) → Bound (v ∷ rest) w i → ⊥
+none_within : (rest : List Name) (v w : Name) → (Same v w → ⊥) → ((j : ℕ) → Bound rest w j → ⊥) → (i : ℕ) → Bound (v ∷ rest) w i → ⊥
 none_within rest v w n m zero b = n b.bears
 none_within rest v w n m (suc j) b = m j (record { within = omega (arith, b.within); bears = b.bears; innermost = λ k h s. b.innermost (suc k) (omega arith) s })
 
 -- the innermost bears it
-pub first_bears : (rest : List Name) (v w : Name) → Same v w → Bound (v ∷ rest) w 0
+first_bears : (rest : List Name) (v w : Name) → Same v w → Bound (v ∷ rest) w 0
 first_bears rest v w s = record { within = omega arith; bears = s; innermost = λ j h. absurd (omega arith) }
 
 -- one around it does
@@ -27,10 +27,6 @@ bears_around rest v w i n b = record { within = omega (arith, b.within); bears =
     earlier : (j : ℕ) → j < suc i → Same (get_or (v ∷ rest) j []) w → ⊥
     earlier zero h s = n s
     earlier (suc j) h s = b.innermost j (omega arith) s
-
--- the innermost doesn't bear it, and k is counted among those around it
-pub counted : (rest : List Name) (v w : Name) (k m : ℕ) → (Same v w → ⊥) → (i : ℕ) × Bound rest w i × (i ≤ 65535 → k ≡ i) → m ≡ min (k + 1) 65535 → (i : ℕ) × Bound (v ∷ rest) w i × (i ≤ 65535 → m ≡ i)
-counted rest v w k m n f e = (suc f.0, bears_around rest v w f.0 n f.1, λ h. omega (arith, f.2 (omega arith)))
 
 -- The binders that were passed on the way out from the innermost don't bear the name w, and k counts them as far as a u16
 -- does: what is found among the rest is found among all.

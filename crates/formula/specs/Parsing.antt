@@ -19,19 +19,14 @@ use Rattle.formula.specs.Firsts.{Fails}
 use Rattle.formula.specs.Names.{Resolves, uses, Known, references, Filed}
 use Rattle.formula.specs.Reading.{Parses, Formula}
 use Rattle.formula.specs.declared.expected.Head.{Head}
-use Rattle.formula.specs.declared.names.Pairs.{Pairs, Top, Two'}
-use Rattle.formula.specs.declared.names.Scope.{Scope}
-use Rattle.formula.specs.declared.names.Scope.TheVariants.{Even, Odd}
+use Rattle.formula.specs.declared.names.Scope.{Scope, Top, One', Two'}
 use Rattle.formula.specs.declared.parser.Reach.{Reach}
 
--- the names of the binders in a chain of pairs, and in a scope, the innermost first
-abbrev pub names_of : Pairs → List Name
-names_of Top = []
-names_of (Two' v w p s) = v.now ∷ w.now ∷ names_of s
-
+-- the names of the binders in a scope, the innermost first
 abbrev pub names_in : Scope → List Name
-names_in (Even s) = names_of s
-names_in (Odd w s) = w.now ∷ names_of s.now
+names_in Top = []
+names_in (One' v p s) = v.now ∷ names_in s
+names_in (Two' v w p s) = v.now ∷ w.now ∷ names_in s
 
 -- no abstraction begins here
 abbrev pub NoLambda : List Token → Type 0

@@ -2,7 +2,7 @@
 ghost use Rattle.std.specs.Prelude.{◌≡◌, ℕ, ◌≤◌, ◌∷◌, MatchOption, Decides};
 ghost use Rattle.catalogue.specs.Names.{Same};
 ghost use Rattle.formula.specs.Names.{Bound};
-ghost use Rattle.formula.specs.Parsing.{names_in, names_of};
+ghost use Rattle.formula.specs.Parsing.{names_in};
 
 use catalogue::names::same_name;
 
@@ -14,40 +14,13 @@ fn bears(binder: &[u8], name: &[u8]) -> bool
     alike && same_name(binder, name)
 }
 
-// Binders in a chain, the innermost first: two in a link, so that the way outwards takes half as many steps.
-#[derive(Clone, Copy)]
-pub enum Pairs<'s, 'a> {
-    Top,
-    Two(&'a [u8], &'a [u8], &'s Pairs<'s, 'a>),
-}
-
-impl Pairs<'_, '_> {
-    // How many binders stand between a name and the innermost that bears it, if one does; 65,535 stands for more too.
-    fn index(&self, name: &[u8]) -> Option<u16>
-        ensures { MatchOption result ((i : ℕ) → Bound (names_of self.now) name.now i → ⊥) (λ k. (i : ℕ) × Bound (names_of self.now) name.now i × (i ≤ 65535 → k ≡ i)) }
-    {
-        // No iterator's `position`, which would ask that a usize can number all binders.
-        let mut pairs = self;
-        let mut between = 0u16;
-        while let Pairs::Two(binder, next, outer) = pairs {
-            if bears(binder, name) {
-                return Some(between);
-            }
-            if bears(next, name) {
-                return Some(between.saturating_add(1));
-            }
-            between = between.saturating_add(2);
-            pairs = outer;
-        }
-        None
-    }
-}
-
-// The binders around a place, the innermost first.
+// The binders around a place, the innermost first: a chain with two in most links, so that the way outwards takes half as
+// many steps.
 #[derive(Clone, Copy)]
 pub enum Scope<'s, 'a> {
-    Even(Pairs<'s, 'a>),
-    Odd(&'a [u8], &'s Pairs<'s, 'a>),
+    Top,
+    One(&'a [u8], &'s Scope<'s, 'a>),
+    Two(&'a [u8], &'a [u8], &'s Scope<'s, 'a>),
 }
 
 impl<'s, 'a> Scope<'s, 'a> {
@@ -56,8 +29,8 @@ impl<'s, 'a> Scope<'s, 'a> {
         ensures { names_in result ≡ binder.now ∷ names_in self.now }
     {
         match self {
-            Scope::Even(pairs) => Scope::Odd(binder, pairs),
-            Scope::Odd(next, pairs) => Scope::Even(Pairs::Two(binder, next, pairs)),
+            Scope::One(next, outer) => Scope::Two(binder, next, outer),
+            _ => Scope::One(binder, self),
         }
     }
 
@@ -65,14 +38,29 @@ impl<'s, 'a> Scope<'s, 'a> {
     pub fn index(&self, name: &[u8]) -> Option<u16>
         ensures { MatchOption result ((i : ℕ) → Bound (names_in self.now) name.now i → ⊥) (λ k. (i : ℕ) × Bound (names_in self.now) name.now i × (i ≤ 65535 → k ≡ i)) }
     {
-        match self {
-            Scope::Even(pairs) => pairs.index(name),
-            Scope::Odd(binder, pairs) => {
-                if bears(binder, name) {
-                    return Some(0);
+        // No iterator's `position`, which would ask that a usize can number all binders.
+        let mut scope = self;
+        let mut between = 0u16;
+        'links: loop {
+            match scope {
+                Scope::Top => return None,
+                Scope::One(binder, outer) => {
+                    if bears(binder, name) {
+                        return Some(between);
+                    }
+                    between = between.saturating_add(1);
+                    scope = outer;
                 }
-                let k = pairs.index(name)?;
-                Some(k.saturating_add(1))
+                Scope::Two(binder, next, outer) => {
+                    if bears(binder, name) {
+                        return Some(between);
+                    }
+                    if bears(next, name) {
+                        return Some(between.saturating_add(1));
+                    }
+                    between = between.saturating_add(2);
+                    scope = outer;
+                }
             }
         }
     }

@@ -9,7 +9,7 @@ ghost use Rattle.grammar.specs.Grammar.{expression as anExpression, application 
 
 use crate::expected::{abstraction_head, closing, expected, follows};
 use crate::memory::{lift, put};
-use crate::names::{Pairs, Scope};
+use crate::names::Scope;
 use catalogue::interface::Catalogue;
 use term::{Symbol, TermNode};
 use text::fault::TextFault;
@@ -165,7 +165,7 @@ impl<'a, C: Catalogue> Reader<'a, C> {
         ensures { MatchResult result (λ q. Parsed self.now.lexer.text.now (C.entries self.now.catalogue.now) self.now.filed out.old out.new q) (λ f. NotParsed self.now.lexer.text.now f) }
     {
         self.lexer.scan()?;
-        let all = self.expression(0, &Scope::Even(Pairs::Top), out)?;
+        let all = self.expression(0, &Scope::Top, out)?;
         match self.lexer.next(all.end)? {
             Some(found) => Err(TextFault::Misplaced(found.at)),
             None => Ok(all),
