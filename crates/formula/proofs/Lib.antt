@@ -1,5 +1,6 @@
 mod Writing
 mod Scopes
+mod Knowing
 mod Tokens
 mod Signs
 mod Firsts
@@ -7,3 +8,4 @@ pub mod Steps
 mod Faulting
 mod Covering
 pub mod Wholes
+mod Rooms

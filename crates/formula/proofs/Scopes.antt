@@ -9,19 +9,19 @@ pub false_no : {P : Type 0} → (P → false ≡ true) → P → ⊥
 false_no f p = let e = f p in let z : ◌≡◌ {A = ℕ} 0 1 = cc in omega arith
 
 -- none bears a name where there is no binder, nor where the innermost doesn't bear it and none around it does
-none_around : (w : Name) (i : ℕ) → Bound [] w i → ⊥
+pub none_around : (w : Name) (i : ℕ) → Bound [] w i → ⊥
 none_around w i b = omega (arith, b.within)
 
-none_within : (rest : List Name) (v w : Name) → (Same v w → ⊥) → ((j : ℕ) → Bound rest w j → ⊥) → (i : ℕ) → Bound (v ∷ rest) w i → ⊥
+pub none_within : (rest : List Name) (v w : Name) → (Same v w → ⊥) → ((j : ℕ) → Bound rest w j → ⊥) → (i : ℕ) → Bound (v ∷ rest) w i → ⊥
 none_within rest v w n m zero b = n b.bears
 none_within rest v w n m (suc j) b = m j (record { within = omega (arith, b.within); bears = b.bears; innermost = λ k h s. b.innermost (suc k) (omega arith) s })
 
 -- the innermost bears it
-first_bears : (rest : List Name) (v w : Name) → Same v w → Bound (v ∷ rest) w 0
+pub first_bears : (rest : List Name) (v w : Name) → Same v w → Bound (v ∷ rest) w 0
 first_bears rest v w s = record { within = omega arith; bears = s; innermost = λ j h. absurd (omega arith) }
 
 -- one around it does
-bears_around : (rest : List Name) (v w : Name) (i : ℕ) → (Same v w → ⊥) → Bound rest w i → Bound (v ∷ rest) w (suc i)
+pub bears_around : (rest : List Name) (v w : Name) (i : ℕ) → (Same v w → ⊥) → Bound rest w i → Bound (v ∷ rest) w (suc i)
 bears_around rest v w i n b = record { within = omega (arith, b.within); bears = b.bears; innermost = earlier }
   where
     earlier : (j : ℕ) → j < suc i → Same (get_or (v ∷ rest) j []) w → ⊥

@@ -29,12 +29,12 @@ resolved_nodes refers = refl
 resolved_nodes (binds r) = omega (arith, resolved_nodes r)
 resolved_nodes (applies {f = f} {a = a} r s) = omega (arith, resolved_nodes r, resolved_nodes s, length-append (prefix f) (prefix a))
 
-settled_names : (es : List Entry) (scope : List Name) (w : Name) (place : ℕ) (out out' : List TermNode) (u : Option ℕ) → Settled es scope w place out out' u → 0 < length out → Fails (Known es) (λ u. u.at) (uses scope (named w place)) u
-settled_names es scope w place out out' None s h = ((s h).0 place, tt)
-settled_names es scope w place out out' (Some p) s h = fails_one (Known es) (λ u. u.at) _ p s.0 (s.1 place)
+settled_names : (es : List Entry) (scope : List Name) (w : Name) (place : ℕ) (out out' : List TermNode) (u : Option ℕ) → Settled es scope w place out out' u → Fails (Known es) (λ u. u.at) (uses scope (named w place)) u
+settled_names es scope w place out out' None s = (s.0 place, tt)
+settled_names es scope w place out out' (Some p) s = fails_one (Known es) (λ u. u.at) _ p s.0 (s.1 place)
 
 settled_written : (es : List Entry) (scope : List Name) (w : Name) (place : ℕ) (out out' : List TermNode) (u : Option ℕ) → Settled es scope w place out out' u → u ≡ None → length scope ≤ 65535 → 0 < length out → (t : Term) × Resolves es scope (named w place) t × (out' ≡ prefix t ++ drop 1 out)
-settled_written es scope w place out out' None s e d h = let t = (s h).1 d in (t.0, t.1 place, t.2)
+settled_written es scope w place out out' None s e d h = let t = s.1 d h in (t.0, t.1 place, t.2)
 settled_written es scope w place out out' (Some p) s e d h = let z : ◌≡◌ {A = ℕ} 0 1 = cc in absurd (omega arith)
 
 unfiled_fails : (filed n place : ℕ) (u : Option ℕ) → Unfiled filed n place u → Fails (Filed filed) (λ r. r.at) (references (referred n place)) u
@@ -54,7 +54,7 @@ module _ (text : List ℕ) (es : List Entry) (filed : ℕ) (scope : List Name) (
         remains = m.2;
         count = refl;
         filing = tt;
-        naming = λ room. settled_names es scope w.now f.at out out' u s room;
+        naming = settled_names es scope w.now f.at out out' u s;
         writing = λ h z room. settled_written es scope w.now f.at out out' u s z (omega arith) room;
       }
 
@@ -70,7 +70,7 @@ module _ (text : List ℕ) (es : List Entry) (filed : ℕ) (scope : List Name) (
         remains = m.2;
         count = refl;
         filing = unfiled_fails filed number f.at u s;
-        naming = λ room. tt;
+        naming = tt;
         writing = λ h z room. (reference number, refers, put room ∙ first_set out (node 4 number) room);
       }
 
@@ -114,9 +114,7 @@ made_more text es filed scope out p p' q q' r n s ts m lp up lp' at whole more =
       remains = b.remains;
       count = omega (arith, m.count, b.count);
       filing = fails_append (Filed filed) (λ r. r.at) (references m.tree) (references b.tree) r.unfiled n.unfiled m.filing b.filing;
-      naming = λ room.
-          let here : s ≡ nodes m.tree + 1 = omega (arith, m.count, at) in
-          fails_append (Known es) (λ u. u.at) (uses scope m.tree) (uses scope b.tree) r.unknown n.unknown (m.naming (omega arith)) (b.naming (omega (arith, here, length-drop s p')));
+      naming = fails_append (Known es) (λ u. u.at) (uses scope m.tree) (uses scope b.tree) r.unknown n.unknown m.naming b.naming;
       writing = λ h none room.
           let k = nodes m.tree in
           let j = nodes b.tree in
@@ -148,7 +146,7 @@ made_abstraction text es filed scope out p q q' from h r s ts head put at lp who
       remains = m.remains;
       count = ap (λ n. n + 1) m.count;
       filing = m.filing;
-      naming = λ room. let here : s ≡ 1 = at (omega arith) in m.naming (omega (arith, here, length-drop s p));
+      naming = m.naming;
       writing = λ d none room.
           let n = nodes m.tree in
           let some : 0 < length out = omega arith in

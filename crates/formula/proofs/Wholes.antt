@@ -45,7 +45,7 @@ module _ (text : List ℕ) (es : List Entry) (filed : ℕ) (out out' : List Term
         parses = record { tokens = all.tokens; spelled = all.spelled; is = subst (λ l. Is expression l m.tree) (sym (m.split ∙ ap (λ l. m.front ++ l) end ∙ append-nil m.front)) m.is };
         count = m.count;
         filing = m.filing;
-        naming = λ few room. m.naming room;
+        naming = m.naming;
         writing = λ few u room. m.writing (omega arith) u room;
       }
 
@@ -109,14 +109,14 @@ module _ (text : List ℕ) (es : List Entry) (filed : ℕ) (out out' : List Term
 
   pub refused_name : (at : ℕ) → r.count ≤ 1024 → r.count ≤ length out → r.unknown ≡ Some at → Refuses es filed text (length out) (says (fault.Unknown at))
   refused_name at h l e =
-      unknown p.parses (few_nodes h) (fits l) (subst (Fails (Known es) (λ u. u.at) (uses [] p.tree)) e (p.naming (few_nodes h) (fits l)))
+      unknown p.parses (few_nodes h) (fits l) (subst (Fails (Known es) (λ u. u.at) (uses [] p.tree)) e p.naming)
 
-  all_known : r.count ≤ 1024 → r.count ≤ length out → r.unknown ≡ None → AllByRecursion (Known es) (uses [] p.tree)
-  all_known h l e = subst (Fails (Known es) (λ u. u.at) (uses [] p.tree)) e (p.naming (few_nodes h) (fits l))
+  all_known : r.count ≤ 1024 → r.unknown ≡ None → AllByRecursion (Known es) (uses [] p.tree)
+  all_known h e = subst (Fails (Known es) (λ u. u.at) (uses [] p.tree)) e p.naming
 
   pub refused_reference : (at : ℕ) → r.count ≤ 1024 → r.count ≤ length out → r.unknown ≡ None → r.unfiled ≡ Some at → Refuses es filed text (length out) (says (fault.NotFiled at))
   refused_reference at h l n e =
-      not_filed p.parses (few_nodes h) (fits l) (all_known h l n) (subst (Fails (Filed filed) (λ x. x.at) (references p.tree)) e p.filing)
+      not_filed p.parses (few_nodes h) (fits l) (all_known h n) (subst (Fails (Filed filed) (λ x. x.at) (references p.tree)) e p.filing)
 
   pub drafted : r.count ≤ 1024 → r.count ≤ length out → length out' ≡ length out → r.unknown ≡ None → r.unfiled ≡ None → Drafted es filed text out' r.count
   drafted h l same n e =
@@ -167,7 +167,7 @@ parsed_part text es filed out out' s r e p =
       parses = p.parses;
       count = p.count;
       filing = p.filing;
-      naming = λ few room. p.naming few (omega (arith, e, length-take s out));
+      naming = p.naming;
       writing = λ few none room.
           let n = nodes p.tree in
           let fits : nodes p.tree ≤ length (take s out) = omega (arith, e, length-take s out) in

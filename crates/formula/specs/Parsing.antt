@@ -98,9 +98,9 @@ abbrev pub Leaf : List Entry → List Name → Name → Option Symbol → Type 0
 Leaf es scope w (Some v) = ((o : ℕ) → Known es (record { name = w; at = o; scope = scope })) × (length scope ≤ 65535 → (t : Term) × (prefix t ≡ node_of v ∷ []) × ((o : ℕ) → Resolves es scope (named w o) t))
 Leaf es scope w None = (o : ℕ) → Known es (record { name = w; at = o; scope = scope }) → ⊥
 
--- a name settled: where there is room, its node is written, or its place is answered
+-- a name settled: its node is written where there is room, or its place is answered
 abbrev pub Settled : List Entry → List Name → Name → ℕ → List TermNode → List TermNode → Option ℕ → Type 0
-Settled es scope w place out out' None = 0 < length out → ((o : ℕ) → Known es (record { name = w; at = o; scope = scope })) × (length scope ≤ 65535 → (t : Term) × ((o : ℕ) → Resolves es scope (named w o) t) × (out' ≡ prefix t ++ drop 1 out))
+Settled es scope w place out out' None = ((o : ℕ) → Known es (record { name = w; at = o; scope = scope })) × (length scope ≤ 65535 → 0 < length out → (t : Term) × ((o : ℕ) → Resolves es scope (named w o) t) × (out' ≡ prefix t ++ drop 1 out))
 Settled es scope w place out out' (Some p) = (p ≡ place) × ((o : ℕ) → Known es (record { name = w; at = o; scope = scope }) → ⊥)
 
 -- where a reference is not filed, its place
@@ -114,8 +114,8 @@ pub record Advance (text : List ℕ) (from : ℕ) (r : Reach) : Type 0 where
   pub within : r.end ≤ length text
   pub small : r.count + 1 ≤ 2 * (r.end - from)
 
--- The tokens ts from here on begin with one of the kind. Where the memory has room for its term, its names are settled,
--- and the term is written at the front.
+-- The tokens ts from here on begin with one of the kind. Its names are settled, and its term is written at the front of
+-- the memory where it has room for it.
 pub record Made (kind : Kind) (text : List ℕ) (es : List Entry) (filed : ℕ) (scope : List Name) (out out' : List TermNode) (r : Reach) (ts : List Token) : Type 0 where
   pub tree : Tree
   pub front : List Token
@@ -125,7 +125,7 @@ pub record Made (kind : Kind) (text : List ℕ) (es : List Entry) (filed : ℕ) 
   pub remains : Rest text r.end rest
   pub count : r.count ≡ nodes tree
   pub filing : Fails (Filed filed) (λ x. x.at) (references tree) r.unfiled
-  pub naming : nodes tree ≤ length out → Fails (Known es) (λ u. u.at) (uses scope tree) r.unknown
+  pub naming : Fails (Known es) (λ u. u.at) (uses scope tree) r.unknown
   pub writing : length scope + nodes tree ≤ 65536 → r.unknown ≡ None → nodes tree ≤ length out → (t : Term) × Resolves es scope tree t × (out' ≡ prefix t ++ drop (nodes tree) out)
 
 -- One of the kind was read from here on, over whichever tokens the text has.
@@ -138,6 +138,17 @@ pub record Ended (kind : Kind) (text : List ℕ) (es : List Entry) (filed : ℕ)
   pub covered : Covered kind text es filed scope out out' from r
   pub ends : (ts : List Token) → Rest text r.end ts → Ends ts
 
+-- the same reach, with another first unknown name
+abbrev pub with_unknown : Reach → Option ℕ → Reach
+with_unknown r u = record { end = r.end; count = r.count; unknown = u; unfiled = r.unfiled }
+
+-- P holds of the reach with the first unknown name of all that was read. The reader answers that name where there was
+-- room for all nodes; a name without room for its node isn't looked up.
+pub record InRoom (room : ℕ) (P : Reach → Type 0) (r : Reach) : Type 0 where
+  pub unknown : Option ℕ
+  pub read : P (with_unknown r unknown)
+  pub looked_up : r.count ≤ room → unknown ≡ r.unknown
+
 abbrev pub BlamesExpression : List ℕ → ℕ → TextFault → Type 0
 BlamesExpression text from f = (ts : List Token) → Rest text from ts → (k : Frames) → Blames (start k) ts (length text) f
 
@@ -147,14 +158,14 @@ BlamesApplication text from f = (ts : List Token) → Rest text from ts → NoLa
 abbrev pub BlamesNext : List ℕ → ℕ → TextFault → Type 0
 BlamesNext text from f = (ts : List Token) → Rest text from ts → GoesOn ts → (g : Tree) (k : Frames) → Blames (after g k) ts (length text) f
 
--- The whole text was read. Where the memory has room for its term, of up to 1,024 nodes, its names are settled, and the
--- term is written.
+-- The whole text was read. Its names are settled, and its term is written where the memory has room for it, up to 1,024
+-- nodes.
 pub record Parsed (text : List ℕ) (es : List Entry) (filed : ℕ) (out out' : List TermNode) (r : Reach) : Type 0 where
   pub tree : Tree
   pub parses : Parses text tree
   pub count : r.count ≡ nodes tree
   pub filing : Fails (Filed filed) (λ x. x.at) (references tree) r.unfiled
-  pub naming : nodes tree ≤ 1024 → nodes tree ≤ length out → Fails (Known es) (λ u. u.at) (uses [] tree) r.unknown
+  pub naming : Fails (Known es) (λ u. u.at) (uses [] tree) r.unknown
   pub writing : nodes tree ≤ 1024 → r.unknown ≡ None → nodes tree ≤ length out → (t : Term) × Resolves es [] tree t × (out' ≡ prefix t ++ drop (nodes tree) out)
 
 -- why the text is no expression

@@ -1,10 +1,10 @@
 // The grammar of formulas read in one pass: expression, application and atom call each other, the unread part of the
 // text falling. The pass counts nodes, settles names and references, and writes the term where there is room.
-ghost use Rattle.std.specs.Prelude.{◌≡◌, ℕ, ◌+◌, ◌*◌, ◌^◌, ◌<◌, ◌≤◌, List, length, MatchOption, MatchResult};
+ghost use Rattle.std.specs.Prelude.{◌≡◌, ℕ, ◌+◌, ◌*◌, ◌^◌, ◌<◌, ◌≤◌, List, length, None, MatchOption, MatchResult};
 ghost use Rattle.catalogue.specs.Names.{Name};
 ghost use Rattle.catalogue.specs.Entries.{Entry};
 ghost use Rattle.formula.specs.Names.{Known};
-ghost use Rattle.formula.specs.Parsing.{names_in, Leaf, Settled, Unfiled, Ended, Covered, BlamesExpression, BlamesApplication, BlamesNext, Parsed, NotParsed};
+ghost use Rattle.formula.specs.Parsing.{names_in, Leaf, Settled, Unfiled, Ended, Covered, InRoom, BlamesExpression, BlamesApplication, BlamesNext, Parsed, NotParsed};
 ghost use Rattle.grammar.specs.Grammar.{expression as anExpression, application as anApplication, atom as anAtom};
 
 use crate::expected::{abstraction_head, closing, expected, follows};
@@ -47,8 +47,7 @@ impl<'a, C: Catalogue> Reader<'a, C> {
         Some(Symbol::Primitive(k))
     }
 
-    // Writes the node of a name, or answers its place where it is unknown. Where there is no room for the node, the name
-    // isn't looked up: the text is refused for its size, and the names looked up and the binders around them stay few.
+    // Writes the node of a name, or answers its place where it is unknown.
     fn settle(
         &self,
         scope: &Scope,
@@ -58,14 +57,29 @@ impl<'a, C: Catalogue> Reader<'a, C> {
     ) -> Option<usize>
         ensures { Settled (C.entries self.now.catalogue.now) (names_in scope.now) name.now place out.old out.new result }
     {
-        if out.is_empty() {
-            return None;
-        }
         let Some(symbol) = self.leaf(scope, name) else {
             return Some(place);
         };
         put(out, symbol);
         None
+    }
+
+    // Settles a name where there is room for its node. Where there is none, the name isn't looked up: the text is refused,
+    // for its size if not for its form, and the names looked up and the binders around them stay few.
+    fn settle_in_room(
+        &self,
+        scope: &Scope,
+        name: &[u8],
+        place: usize,
+        out: &mut [TermNode],
+    ) -> Option<usize>
+        ensures settled { 0 < length out.old → Settled (C.entries self.now.catalogue.now) (names_in scope.now) name.now place out.old out.new result }
+        ensures unasked { length out.old ≡ 0 → result ≡ None }
+    {
+        if out.is_empty() {
+            return None;
+        }
+        self.settle(scope, name, place, out)
     }
 
     // The place of a reference that is not filed.
@@ -82,7 +96,7 @@ impl<'a, C: Catalogue> Reader<'a, C> {
         scope: &Scope<'_, 'a>,
         out: &mut [TermNode],
     ) -> Result<Reach, TextFault>
-        ensures { MatchResult result (λ q. Ended anExpression self.now.lexer.text.now (C.entries self.now.catalogue.now) self.now.filed (names_in scope.now) out.old out.new from q) (λ f. BlamesExpression self.now.lexer.text.now from f) }
+        ensures { MatchResult result (InRoom (length out.old) (Ended anExpression self.now.lexer.text.now (C.entries self.now.catalogue.now) self.now.filed (names_in scope.now) out.old out.new from)) (λ f. BlamesExpression self.now.lexer.text.now from f) }
     {
         let Some(head) = abstraction_head(&self.lexer, from)? else {
             return self.application(from, &*scope, out);
@@ -104,7 +118,7 @@ impl<'a, C: Catalogue> Reader<'a, C> {
         scope: &Scope<'_, 'a>,
         out: &mut [TermNode],
     ) -> Result<Reach, TextFault>
-        ensures { MatchResult result (λ q. Ended anApplication self.now.lexer.text.now (C.entries self.now.catalogue.now) self.now.filed (names_in scope.now) out.old out.new from q) (λ f. BlamesApplication self.now.lexer.text.now from f) }
+        ensures { MatchResult result (InRoom (length out.old) (Ended anApplication self.now.lexer.text.now (C.entries self.now.catalogue.now) self.now.filed (names_in scope.now) out.old out.new from)) (λ f. BlamesApplication self.now.lexer.text.now from f) }
     {
         let mut reach = self.atom(from, &*scope, &mut *out)?;
         'atoms: while follows(&self.lexer, reach.end)? {
@@ -128,12 +142,12 @@ impl<'a, C: Catalogue> Reader<'a, C> {
         scope: &Scope<'_, 'a>,
         out: &mut [TermNode],
     ) -> Result<Reach, TextFault>
-        ensures { MatchResult result (λ q. Covered anAtom self.now.lexer.text.now (C.entries self.now.catalogue.now) self.now.filed (names_in scope.now) out.old out.new from q) (λ f. BlamesApplication self.now.lexer.text.now from f × BlamesNext self.now.lexer.text.now from f) }
+        ensures { MatchResult result (InRoom (length out.old) (Covered anAtom self.now.lexer.text.now (C.entries self.now.catalogue.now) self.now.filed (names_in scope.now) out.old out.new from)) (λ f. BlamesApplication self.now.lexer.text.now from f × BlamesNext self.now.lexer.text.now from f) }
     {
         let found = expected(&self.lexer, from)?;
         match found.token {
             Token::Name(name) => {
-                let unknown = self.settle(scope, name, found.at, out);
+                let unknown = self.settle_in_room(scope, name, found.at, out);
                 Ok(Reach {
                     end: found.end,
                     count: 1,
@@ -162,7 +176,7 @@ impl<'a, C: Catalogue> Reader<'a, C> {
 
     // The whole text as one expression.
     pub fn whole(&self, out: &mut [TermNode]) -> Result<Reach, TextFault>
-        ensures { MatchResult result (λ q. Parsed self.now.lexer.text.now (C.entries self.now.catalogue.now) self.now.filed out.old out.new q) (λ f. NotParsed self.now.lexer.text.now f) }
+        ensures { MatchResult result (InRoom (length out.old) (Parsed self.now.lexer.text.now (C.entries self.now.catalogue.now) self.now.filed out.old out.new)) (λ f. NotParsed self.now.lexer.text.now f) }
     {
         self.lexer.scan()?;
         let all = self.expression(0, &Scope::Top, out)?;

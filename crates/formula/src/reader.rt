@@ -1,8 +1,8 @@
 // The reader of formulas: each question is put to the whole text before the next.
-ghost use Rattle.std.specs.Prelude.{◌≡◌, ℕ, length, replicate, MatchResult};
+ghost use Rattle.std.specs.Prelude.{◌≡◌, ℕ, min, length, replicate, MatchResult};
 ghost use Rattle.term.specs.Terms.{zero_node};
 ghost use Rattle.formula.specs.Faults.{says};
-ghost use Rattle.formula.specs.Parsing.{Drafted, Parsed, NotParsed};
+ghost use Rattle.formula.specs.Parsing.{Drafted, Parsed, InRoom, NotParsed};
 ghost use Rattle.formula.specs.Reading.{Accepted, Refuses};
 
 use crate::fault::FormulaFault;
@@ -23,7 +23,7 @@ fn parse<'a, C: Catalogue>(
     text: &'a [u8],
     memory: &mut [TermNode],
 ) -> Result<Reach, TextFault>
-    ensures { MatchResult result (λ q. Parsed text.now (C.entries catalogue.now) filed memory.old memory.new q) (λ f. NotParsed text.now f) }
+    ensures { MatchResult result (InRoom (min (length memory.old) 1024) (Parsed text.now (C.entries catalogue.now) filed memory.old memory.new)) (λ f. NotParsed text.now f) }
 {
     let reader = Reader {
         lexer: Lexer::new(text),

@@ -91,3 +91,12 @@ fn room_to_the_last_record(rt: HostRuntime) {
     let mut none = [TermNode::default(); 0];
     assert_eq!(rt; outcome(b"std_hours", &mut none), Err((23, 0)));
 }
+
+#[test]
+fn names_without_room(rt: HostRuntime) {
+    let mut memory = scribbled();
+    assert_eq!(rt; outcome(b"\\x.x x x x x y", &mut memory), Err((24, 13)));
+    assert_eq!(rt; outcome(b"\\x.x x x x x x y", &mut memory), Err((23, 0)));
+    assert_eq!(rt; outcome(b"\\x.y x x x x x x", &mut memory), Err((23, 0)));
+    assert_eq!(rt; outcome(b"\\x.x x x x x x y)", &mut memory), Err((21, 16)));
+}
